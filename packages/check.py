@@ -32,7 +32,7 @@ from tree import RELEASED, Release
 
 # What an installation needs, by its page. Then what a developer may have besides.
 BARE = ("dash", "coreutils", "sed", "grep", "diffutils", "findutils", "tar", "gzip", "libc-bin", "dpkg")
-MORE = ("gcc", "g++", "libc6-dev", "pkg-config", "cmake", "make", "python3", "python3-venv", "python3-numpy", "gawk")
+MORE = ("gcc", "g++", "libc6-dev", "pkg-config", "cmake", "make", "python3", "python3-venv", "python3-numpy")
 # Instructions of processors after those with SSE4.1. `rep bsf`, which any processor takes, is shown as tzcnt.
 LATER = re.compile(r"v[a-z]{2,}\w*|popcnt|crc32[a-z]?|pcmp[ei]str[im]|pcmpgtq|lzcnt|andn|bextr|bls(?:i|r|msk)|bzhi|pdep|pext|mulx|rorx|s[ahl][lr]x|movbe|aes\w+|pclmul\w*|sha(?:1|256)\w+|ad[co]x")
 # A processor without SSE4.1, as /proc/cpuinfo shows one.

@@ -112,10 +112,17 @@ def read_help(program, word, text):
     return it
 
 
-def ask(folder, program, *words):
-    said = subprocess.run([f"{folder}/{program}", *words, "--help"], stdout=subprocess.PIPE, check=True, text=True).stdout
+def printed(folder, program, *words):
+    """What a program prints."""
     try:
-        return read_help(program, "".join(words), said)
+        return subprocess.run([f"{folder}/{program}", *words], stdin=subprocess.DEVNULL, stdout=subprocess.PIPE, check=True, text=True).stdout
+    except (OSError, subprocess.CalledProcessError) as error:
+        sys.exit(f"helps.py: {' '.join([program, *words])}: {error}")
+
+
+def ask(folder, program, *words):
+    try:
+        return read_help(program, "".join(words), printed(folder, program, *words, "--help"))
     except Unknown as error:
         sys.exit(f"helps.py: {' '.join([program, *words, '--help'])}: {error}")
 
@@ -258,6 +265,6 @@ def made(folder, version, date):
 
 def version(folder, program):
     """The version that a program prints, as `nms_tool 0.2.0`, perhaps with more after it."""
-    said = subprocess.run([f"{folder}/{program}", "--version"], stdout=subprocess.PIPE, check=True, text=True).stdout
+    said = printed(folder, program, "--version")
     found = re.match(rf"{program} (\d+\.\d+\.\d+)\b", said)
     return found[1] if found else sys.exit(f"helps.py: {program} --version printed {said!r}")

@@ -8,7 +8,7 @@ import subprocess
 # Files of a package that nothing here runs by.
 LEFT_OUT = re.compile(r"/usr/share/(?:doc|man|locale|info|i18n|lintian)/.")
 # What is mounted and started there: $1 is the root, $2 a toolchain of Rust or nothing, $3 who it runs as, $4 the script.
-ENTER = """
+ENTER = """set -e
 mount -t proc proc "$1/proc"
 for it in null zero urandom; do : >>"$1/dev/$it" && mount --bind "/dev/$it" "$1/dev/$it"; done
 [ -z "$2" ] || { mkdir -p "$1/opt/rust" && mount --bind "$2" "$1/opt/rust"; }

@@ -18,8 +18,11 @@ SETUPS = ("builtin", "market", "lots", "caps_of_2024")
 
 
 def read(path):
-    with open(path, "rb") as file:
-        return file.read()
+    try:
+        with open(path, "rb") as file:
+            return file.read()
+    except OSError as error:
+        sys.exit(f"packages: {path}: {error.strerror}")
 
 
 def output(*words):
@@ -49,9 +52,9 @@ class Release:
 
     def __init__(self, folder):
         self.folder = folder
-        said = dict(reversed(line.split("  ", 1)) for line in read(f"{folder}/SHA256SUMS").decode().splitlines())
+        said = re.findall(r"^([0-9a-f]{64})  (\S+)$", read(f"{folder}/SHA256SUMS").decode("ascii", "replace"), re.M)
         for name in (*RELEASED, "PROVED"):
-            if said.get(name) != sha256(read(f"{folder}/{name}")):
+            if (sha256(read(f"{folder}/{name}")), name) not in said:
                 sys.exit(f"packages: {folder}/{name} is not what SHA256SUMS says")
         self.version = found(r"^## (\d+\.\d+\.\d+)", f"{TOP}/CHANGELOG.md")
         self.abi = found(r"^#define NMS_ABI (\d+)$", f"{TOP}/include/nms.h")
@@ -59,7 +62,10 @@ class Release:
         if self.soname != f"libnms.so.{self.abi}":
             sys.exit(f"packages: libnms.so says that it is {self.soname!r}, and NMS_ABI of nms.h is {self.abi}")
         # Every file of every package has the time of the commit.
-        self.time = int(os.environ.get("SOURCE_DATE_EPOCH") or output("git", "log", "-1", "--format=%ct"))
+        seconds = os.environ.get("SOURCE_DATE_EPOCH") or output("git", "log", "-1", "--format=%ct").strip()
+        if not re.fullmatch(r"\d{1,10}", seconds):
+            sys.exit(f"packages: SOURCE_DATE_EPOCH is {seconds!r}, and no number of seconds")
+        self.time = int(seconds)
         self.date = time.strftime("%Y-%m-%d", time.gmtime(self.time))
 
     @property

@@ -89,7 +89,8 @@ int main(int count, char **words)
     holds(nms_abi() == NMS_ABI, "the library is of this header's layout");
     {
         char text[NMS_CODE_TEXT_ROOM];
-        holds(nms_version(text, sizeof text, &bytes) == NMS_OK && strcmp(text, NMS_VERSION) == 0, "the library is of this header's version");
+        size_t length;
+        holds(nms_version(text, sizeof text, &length) == NMS_OK && strcmp(text, NMS_VERSION) == 0, "the library is of this header's version");
     }
     holds(nms_open(setup, bytes, &board) == NMS_OK, "the setup opens");
 
