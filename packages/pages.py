@@ -15,7 +15,7 @@ PICTURES = ("docs/day.svg",)
 # A page, what is there, and what an installed page has in its place. What is not there is not replaced: LEFT is the test.
 EDITS = (
     ("README.md", r"(?<=^## Commands\n\n)(?:    .*\n)+\n.*\n", "    nms_tool < examples/sweep.script    the main job\n    nms_selftest                        whether this installation works\n\n"
-     "Commands of these pages run in a folder with a copy of `share/nms/examples` of the installation.\n"),
+     "The commands of these pages run in a folder with copies of `share/nms/examples` and `share/nms/rust`.\n"),
     ("README.md", r"^\| (?:Toolchain|Memory, disk) \|.*\n", ""),
     ("README.md", r"^\| take the code over \|.*\n", ""),
     ("README.md", r"`\./nms_lib`, then `[^`]*`", "`gcc YOURS.c $(pkg-config --cflags --libs nms)`"),
@@ -29,13 +29,14 @@ EDITS = (
     ("docs/CALLING.md", r"^\| \[Rattle\].*\n", ""),
     ("docs/CALLING.md", r"^## From Rattle\n(?s:.*)", ""),
     ("docs/(IMPORT|REVIEW|SERVING).md", r"^The first call .*\n\n", ""),
+    ("docs/SERVING.md", r"^The run once more, (.*):\n\n    tests/replay\.py .*\n\n`day\.asks`.*\n", r"`tests/replay.py` of the sources makes the run once more, \1.\n"),
     ("docs/INSTALL.md", r"^## To make the packages\n(?s:.*?)(?=^## |\Z)", ""),
     ("examples/README.md", r"^Run each command at the top of the repository\.", "Run each command in a folder with a copy of this folder, named `examples`."),
     ("examples/README.md", r"^`tests/check\.py` runs each row\. .*\n", "`nms_selftest` runs each row. [docs/CALLING.md](../docs/CALLING.md) has the callers in `c/`, `cpp/` and `python/`.\n"),
     (r"(?!CHANGELOG).*", r"\./(nms_(?:tool|review|serve))\b", r"\1"),
 )
 # Words of which an installation has nothing.
-LEFT = re.compile(r"\./nms_|nms_lib|--unproved|crates/nms_c/out|\./gate\b|rattle-kit|first call proves|top of the repository")
+LEFT = re.compile(r"\./nms_|nms_lib|--unproved|crates/nms_c/out|\./gate\b|rattle-kit|first call proves|top of the repository|^    (?:tests|bench|build|crates)/", re.M)
 
 
 def linked(page, text):
@@ -45,7 +46,7 @@ def linked(page, text):
         path = os.path.normpath(os.path.join(os.path.dirname(page), target.partition("#")[0])) if not target.startswith("#") else page
         if path in PAGES or path in PICTURES:
             return found[0]
-        return words if path in words else f"{words} ({path} of the sources)"
+        return f"{path} of the sources" if words in (path, os.path.basename(path)) else f"{words} ({path} of the sources)"
 
     return re.sub(r"(?<!!)\[([^\]]*)\]\(([^)\s]+)\)", link, text)
 
