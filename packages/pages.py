@@ -14,12 +14,14 @@ PAGES = ("README.md", "CHANGELOG.md", "examples/README.md", *(f"docs/{it}.md" fo
 PICTURES = ("docs/day.svg",)
 # A page, what is there, and what an installed page has in its place. What is not there is not replaced: LEFT is the test.
 EDITS = (
-    ("README.md", r"(?<=^## Commands\n\n)(?:    .*\n)+\n.*\n", "    nms_tool < examples/sweep.script    the main job\n    nms_selftest                        whether this installation works\n\n"
+    ("README.md", r"(?<=^## Commands\n\n)(?:    .*\n)+\n.*\n",
+     "    nms_tool < examples/sweep.script    the main job\n    nms_selftest                        whether this installation works\n\n"
      "The commands of these pages run in a folder with copies of `share/nms/examples` and `share/nms/rust`.\n"),
     ("README.md", r"^\| (?:Toolchain|Memory, disk) \|.*\n", ""),
     ("README.md", r"^\| take the code over \|.*\n", ""),
     ("README.md", r"`\./nms_lib`, then `[^`]*`", "`gcc YOURS.c $(pkg-config --cflags --libs nms)`"),
-    ("docs/CALLING.md", r"(?<=^## The library\n\n)    \./nms_lib\n\n.*\n", "[INSTALL.md](INSTALL.md) says where the library, its header and its files for `pkg-config` and CMake are.\n"),
+    ("docs/CALLING.md", r"(?<=^## The library\n\n)    \./nms_lib\n\n.*\n",
+     "[INSTALL.md](INSTALL.md) says where the library, its header and its files for `pkg-config` and CMake are.\n"),
     ("docs/CALLING.md", r"^    \./nms_lib\n", ""),
     ("docs/CALLING.md", r"(gcc|g\+\+) (-std=\S+) -I include (\S+) crates/nms_c/out/libnms\.a", r"\1 \2 \3 $(pkg-config --cflags --libs nms)"),
     ("docs/CALLING.md", r"NMS_LIB_DIR=\S+ cargo run", "cargo run"),
@@ -29,10 +31,13 @@ EDITS = (
     ("docs/CALLING.md", r"^\| \[Rattle\].*\n", ""),
     ("docs/CALLING.md", r"^## From Rattle\n(?s:.*)", ""),
     ("docs/(IMPORT|REVIEW|SERVING).md", r"^The first call .*\n\n", ""),
-    ("docs/SERVING.md", r"^The run once more, (.*):\n\n    tests/replay\.py .*\n\n`day\.asks`.*\n", r"`tests/replay.py` of the sources makes the run once more, \1.\n"),
+    ("docs/SERVING.md", r"^The run once more, (.*):\n\n    tests/replay\.py .*\n\n`day\.asks`.*\n",
+     r"`tests/replay.py` of the sources makes the run once more, \1.\n"),
     ("docs/INSTALL.md", r"^## To make the packages\n(?s:.*?)(?=^## |\Z)", ""),
-    ("examples/README.md", r"^Run each command at the top of the repository\.", "Run each command in a folder with a copy of this folder, named `examples`."),
-    ("examples/README.md", r"^`tests/check\.py` runs each row\. .*\n", "`nms_selftest` runs each row. [docs/CALLING.md](../docs/CALLING.md) has the callers in `c/`, `cpp/` and `python/`.\n"),
+    ("examples/README.md", r"^Run each command at the top of the repository\.",
+     "Run each command in a folder with a copy of this folder, named `examples`."),
+    ("examples/README.md", r"^`tests/check\.py` runs each row\. .*\n",
+     "`nms_selftest` runs each row. [docs/CALLING.md](../docs/CALLING.md) has the callers in `c/`, `cpp/` and `python/`.\n"),
     (r"(?!CHANGELOG).*", r"\./(nms_(?:tool|review|serve))\b", r"\1"),
 )
 # Words of which an installation has nothing.
