@@ -38,6 +38,8 @@ SPAN = re.compile(r"`([^`]+)`")
 RELEASED = {"release", "release/x86_64-linux"}
 RELEASED |= {f"release/x86_64-linux/{it}" for it in "PROVED SHA256SUMS libnms.a libnms.so nms_examples nms_review nms_serve nms_tool".split()}
 CELLS = 0
+# Folders of an installation, whose files packages/check.py compares with what docs/INSTALL.md says.
+INSTALLED = ("bin", "lib", "share")
 CODE = re.compile(r"\b([A-Z])(\d{1,2})\b")
 
 
@@ -82,7 +84,7 @@ class Crate:
 
 
 TREE = {name: Crate(name) for name in CRATES}
-SCRIPTS = [it for it in FILES if re.search(r"\.(py|sh|toml|edit|c|cpp|hpp|h|rs)$|^gate$|^nms_(tool|review|serve|lib)$|^bench/latency$|^build/|^crates\.txt$|Cargo|peer/", it)]
+SCRIPTS = [it for it in FILES if re.search(r"\.(py|sh|toml|edit|c|cpp|hpp|h|rs)$|^gate$|^nms_(tool|review|serve|lib)$|^bench/latency$|^(?:build|packages)/|^crates\.txt$|Cargo|peer/", it)]
 TITLES = "\n".join(re.findall(r"^(?:==|--) .*", "\n".join(read(it) for it in sorted(FILES) if it.endswith(".cases")), re.M))
 WORDS = set().union(*(it.words for it in TREE.values()), re.findall(r"\w+", TITLES),
                     *(re.findall(r"\w+", read(it)) for it in SCRIPTS if it != "docs/check.py"))
@@ -155,7 +157,7 @@ def has_path(page, path):
     path = path.rstrip("/.,").split("#")[0]
     if path.startswith("./"):
         path = path[2:]
-    places = ["", f"{os.path.dirname(page)}/", "examples/", "tests/", "tests/cases/", "bench/", "build/", "docs/", "include/", "crates/"]
+    places = ["", f"{os.path.dirname(page)}/", "examples/", "tests/", "tests/cases/", "bench/", "build/", "docs/", "include/", "packages/", "packages/files/", "crates/"]
     places += [f"crates/{it}/{below}" for it in CRATES for below in ("", "src/", "specs/", "proofs/", "src/trials/")]
     for place in places:
         whole = os.path.normpath(place + path)
@@ -183,7 +185,7 @@ def named(page, span):
     for word in words:
         word = word.strip("(),;:'\"")
         if is_path(word) and not word.startswith("/") and not is_stand_in(word):
-            check(has_path(page, word) or word.split("/")[0] in ("out", "KIT") or "/out" in word, page, f"no file `{word}`")
+            check(has_path(page, word) or word.split("/")[0] in ("out", "KIT", *INSTALLED) or "/out" in word, page, f"no file `{word}`")
     for word in re.findall(r"\bnms_\w+", span):
         check(word in CRATES or word in WORDS, page, f"no crate `{word}`")
     if re.fullmatch(r"[A-Za-z_]\w*(::\w+)*(\(\))?", span) and not is_stand_in(span) and len(span) > 2:

@@ -59,8 +59,10 @@
 extern "C" {
 #endif
 
-/* The version of this header's layout. nms_open and nms_setup_place compare it with nms_abi(). */
+/* The version of this header's layout, which libnms.so has in its name. nms_open and nms_setup_place compare it with nms_abi(). */
 #define NMS_ABI 1
+/* The version of the product that this header came with. nms_version writes that of the library. */
+#define NMS_VERSION "0.2.0"
 
 #define NMS_MOST_PARTS 32    /* participants of a setup, and rows of a side */
 #define NMS_MOST_SYMS 1000   /* symbols of a setup */

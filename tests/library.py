@@ -113,6 +113,10 @@ class Library:
         there = [os.path.exists(it) for it in (self.archive, self.shared)]
         return check("the archive and the shared object are there", all(there), there)
 
+    def python(self):
+        """What a Python has to know to find the package and the library."""
+        return {"NMS_LIBRARY": self.shared, "PYTHONPATH": f"{TOP}/python", "PYTHONDONTWRITEBYTECODE": "1"}
+
     def c(self, name, to, *more):
         """The command that builds a program of C with the library."""
         return [self.cc, "-std=c11", *WARNINGS, "-I", f"{TOP}/include", *more, f"{TOP}/{name}", self.archive, "-o", f"{self.room}/{to}"]
@@ -217,7 +221,7 @@ class Library:
             words = [self.cxx, "-std=c++17", *WARNINGS, "-pedantic", "-I", f"{TOP}/include", f"{TOP}/tests/owner.cpp", self.archive]
             if built("tests/owner.cpp is built", [*words, "-Wl,--wrap=nms_abi", "-o", f"{self.room}/owner"]):
                 counted("the class in C++", [f"{self.room}/owner", setup])
-        counted("the module in Python", [sys.executable, f"{TOP}/tests/wrapper.py", setup], env={**os.environ, "NMS_LIBRARY": self.shared})
+        counted("the package in Python", [sys.executable, f"{TOP}/tests/wrapper.py", setup], env={**os.environ, **self.python()})
 
     def callers(self, program):
         """Each caller, with what it must print."""
@@ -233,8 +237,7 @@ class Library:
             if built("examples/cpp/router.cpp is built", [*words, "-o", f"{self.room}/router"]):
                 prints("the caller in C++", [f"{self.room}/router", setup], "examples/cpp/router.out", "examples/cpp/day.feed")
         self.rust(setup)
-        environment = {"NMS_LIBRARY": self.shared, "PYTHONDONTWRITEBYTECODE": "1"}
-        prints("the caller in Python", [sys.executable, "examples/python/worked.py", setup], "examples/python/worked.out", None, environment)
+        prints("the caller in Python", [sys.executable, "examples/python/worked.py", setup], "examples/python/worked.out", None, self.python())
         prints("a child process", [sys.executable, "examples/python/child.py", program], "examples/python/child.out")
 
     def rust(self, setup):
@@ -243,18 +246,21 @@ class Library:
             return
         # Built from a copy, so that cargo writes nothing into the repository.
         folder = f"{self.room}/rust"
-        shutil.copytree(f"{TOP}/examples/rust", folder, ignore=shutil.ignore_patterns("target", "Cargo.lock"))
-        status, said = run(["cargo", "build", "--offline", "--quiet", "--manifest-path", f"{folder}/Cargo.toml", "--target-dir", f"{folder}/made"],
-                           env={**os.environ, "NMS_OUT": os.path.realpath(self.out), "RUSTFLAGS": "-D warnings"})
-        if check("examples/rust is built", status == 0 and not said, said):
-            prints("the caller in Rust", [f"{folder}/made/debug/nms", setup], "examples/rust/trade.out")
+        shutil.copytree(f"{TOP}/rust", folder, ignore=shutil.ignore_patterns("target"))
+        words = ["--offline", "--quiet", "--locked", "--features", "static", "--manifest-path", f"{folder}/Cargo.toml", "--target-dir", f"{folder}/made"]
+        environment = {**os.environ, "NMS_LIB_DIR": os.path.realpath(self.out), "RUSTFLAGS": "-D warnings"}
+        status, said = run(["cargo", "build", *words, "--example", "trade"], env=environment)
+        if check("rust/nms is built", status == 0 and not said, said):
+            prints("the caller in Rust", [f"{folder}/made/debug/examples/trade", setup], "rust/nms/examples/trade.out")
+        status, said = run(["cargo", "test", *words, "--doc"], env=environment)
+        check("the example on the first page of rust/nms", status == 0 and "1 passed" in said, said)
 
     def page(self, program):
         """Follows docs/CALLING.md word for word in a copy of what it names: each part's commands, and what the last must give."""
         clone = f"{self.room}/clone"
         os.makedirs(f"{clone}/crates/nms_c")
-        for folder in ("include", "examples"):
-            shutil.copytree(f"{TOP}/{folder}", f"{clone}/{folder}", ignore=shutil.ignore_patterns("target", "Cargo.lock"))
+        for folder in ("include", "examples", "python", "rust"):
+            shutil.copytree(f"{TOP}/{folder}", f"{clone}/{folder}", ignore=shutil.ignore_patterns("target", "__pycache__"))
         os.symlink(os.path.realpath(self.out), f"{clone}/crates/nms_c/out")
         os.symlink(program, f"{clone}/nms_tool")
         # The library is there already.

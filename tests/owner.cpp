@@ -1,8 +1,8 @@
-// The class of examples/cpp/nms.hpp: its looks are const, an empty text is a text, and an error names the place of a setup or
+// The class of include/nms.hpp: its looks are const, an empty text is a text, and an error names the place of a setup or
 // the field of a number. Link it with -Wl,--wrap=nms_abi.
 //
 //     owner SETUP     the built-in setup; prints a line for each difference, and last `N passed, M failed`
-#include "../examples/cpp/nms.hpp"
+#include <nms.hpp>
 
 #include <cstdio>
 #include <fstream>

@@ -87,6 +87,11 @@ int main(int count, char **words)
     char *setup = text_of(words[1], &bytes);
 
     holds(nms_abi() == NMS_ABI, "the library is of this header's layout");
+    {
+        char text[NMS_CODE_TEXT_ROOM];
+        size_t length;
+        holds(nms_version(text, sizeof text, &length) == NMS_OK && strcmp(text, NMS_VERSION) == 0, "the library is of this header's version");
+    }
     holds(nms_open(setup, bytes, &board) == NMS_OK, "the setup opens");
 
     /* nms_place: an element of an array of tables, a name that comes twice, and a text that is no document. */

@@ -1,17 +1,21 @@
 #!/usr/bin/env python3
-"""Tests examples/python/nms.py: each wrong argument is refused and named, and threads may share a board.
+"""Tests the package in python/nms: each wrong argument is refused and named, and threads may share a board.
 
-    NMS_LIBRARY=libnms.so tests/wrapper.py SETUP        the built-in setup
+    NMS_LIBRARY=libnms.so PYTHONPATH=python tests/wrapper.py SETUP        the built-in setup
+
+It tests nms.arrays too if there is numpy.
 
 Prints a line for each difference, and last `N passed, M failed`.
 """
-import os
 import sys
 import threading
 
-sys.dont_write_bytecode = True
-sys.path.insert(0, os.path.join(os.path.dirname(os.path.realpath(__file__)), "..", "examples", "python"))
 import nms
+
+try:
+    import numpy
+except ImportError:
+    numpy = None
 
 BUY, SELL = nms.OrderSide.BUY, nms.OrderSide.SELL
 THREADS, LOOKS = 8, 2000
@@ -127,9 +131,60 @@ def threads(board):
     check(f"{THREADS} threads at one board", not wrong, f"{len(wrong)} of {THREADS * LOOKS} answers, as {wrong[:1]}")
 
 
+def processors():
+    """A processor that the library does not run on is refused before it is loaded."""
+    for machine, flags, fits in (("x86_64", " fpu sse4_1 avx", True), ("x86_64", " fpu sse2", False), ("x86_64", "", True), ("aarch64", "", False)):
+        check(f"the processor {machine} with {flags!r}", nms._fits(machine, flags) is fits)
+
+
+def arrays(setup):
+    """Arrays of changes, looks and plans give what single calls give; the first element that is refused is named."""
+    import nms.arrays as many
+
+    with nms.Board(setup) as board, nms.Board(setup) as single:
+        changes = numpy.zeros(3, many.CHANGE)
+        for place, (part, bid, offer, record) in enumerate((("N", 99_900, 100_000, "Q,N,ABC,A,9.99,200,10.00,200"),
+                                                            ("P", 99_800, 100_000, "Q,P,ABC,A,9.98,200,10.00,200"),
+                                                            ("Z", 99_900, 100_100, "Q,Z,ABC,A,9.99,200,10.01,200"))):
+            changes[place] = (bid, offer, 200, 200, board.sym("ABC"), 0, board.part(part), 0, 0, 0)
+            single.apply_text(record)
+        check("changes by an array", many.apply_all(board, changes) == 3 and board.best("ABC") == single.best("ABC"), board.best("ABC"))
+        best = many.best_all(board)
+        row = board.best("ABC").offer
+        found = best[board.sym("ABC")]["offer"]
+        check("looks by an array", row and (found["price"], found["size"], found["part"]) == (row.price, row.size, board.part(row.part)), found)
+        check("looks at some symbols", many.best_all(board, numpy.array([1, 0], numpy.uint16)).tolist() == [best[1].tolist(), best[0].tolist()])
+        orders = numpy.zeros(2, many.ORDER)
+        orders[0], orders[1] = (100_100, 300, 0, 0, 0, 0, 0), (99_800, 300, 1, 0, 1, 0, 0)
+        wanted = [single.plan(order(shares=300)), single.plan(order(side=SELL, shares=300, limit=99_800, self_help=("N",)))]
+        check("plans by an array", [int(it["filled"]) for it in many.plan_all(board, orders)] == [it.filled for it in wanted])
+        refused_at("a change in the middle", 11, 1, lambda: many.apply_all(board, numpy.array([changes[0], (1, 2, 3, 4, 0, 0, 200, 0, 0, 0), changes[1]], many.CHANGE)))
+        check("the change before it stays", board.applied() == 4, board.applied())
+        refused_at("a symbol", 12, 1, lambda: many.best_all(board, numpy.array([0, 999], numpy.uint16)))
+        refused_at("an order", 10, 0, lambda: many.plan_all(board, numpy.zeros(1, many.ORDER)))
+        for wrong in ([1], numpy.zeros(2), numpy.zeros((2, 2), many.CHANGE), numpy.zeros(1, many.ORDER)):
+            try:
+                check(f"an array that is none of changes: {wrong!r:.40}", False, many.apply_all(board, wrong))
+            except TypeError:
+                check("an array of another type", True)
+        check("no changes", many.apply_all(board, changes[:0]) == 0 and board.applied() == 4)
+        check("each second change", many.apply_all(board, changes[::2]) == 2 and board.applied() == 6)
+
+
+def refused_at(what, code, place, call):
+    """The call raises an error of that code at that place."""
+    try:
+        check(what, False, call())
+    except nms.arrays.RefusedAt as error:
+        check(what, (error.code, error.place) == (code, place), (error.code, error.place))
+
+
 def main(path):
     with open(path, "rb") as file:
         setup = file.read()
+    processors()
+    if numpy:
+        arrays(setup)
     with nms.Board(setup) as board:
         for record in ("Q,N,ABC,A,9.99,200,10.00,300", "Q,P,ABC,A,9.98,700,10.00,500", "Q,Y,ABC,M,10.00,100,,"):
             board.apply_text(record)

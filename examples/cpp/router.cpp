@@ -9,7 +9,7 @@
 //     O,ID,SIDE,SYM,SHARES,LIMIT[,AWAY]    SIDE is B or S; AWAY is a participant that self-help is declared against
 //
 // What an order can't fill at once is cancelled. The child orders count as executed; a real router waits for reports.
-#include "nms.hpp"
+#include <nms.hpp>
 
 #include <cstdio>
 #include <fstream>

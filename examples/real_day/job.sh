@@ -12,7 +12,10 @@ set -euo pipefail
 export LC_ALL=C
 file=$1 out=$2
 here=$(cd "$(dirname "$0")" && pwd)
-program=${NMS_REVIEW:-$here/../../nms_review} map=${MAP:-$here/../import/taq.toml} market=${MARKET:-$here/../market.toml}
+program=${NMS_REVIEW:-$here/../../nms_review}
+# An installed program is on the path.
+[ -n "${NMS_REVIEW-}" ] || [ -e "$program" ] || program=nms_review
+map=${MAP:-$here/../import/taq.toml} market=${MARKET:-$here/../market.toml}
 name=$(basename "$file" .gz) letter=${name#SPLITS_US_ALL_BBO_} letter=${letter%%_*}
 it=$out/$letter
 if [ -e "$it.day" ]; then exit 0; fi

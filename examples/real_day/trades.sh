@@ -13,7 +13,10 @@ export LC_ALL=C
 file=$1 out=$2
 shift 2
 here=$(cd "$(dirname "$0")" && pwd)
-program=${NMS_REVIEW:-$here/../../nms_review} map=${MAP:-$here/../import/taq-trades.toml}
+program=${NMS_REVIEW:-$here/../../nms_review}
+# An installed program is on the path.
+[ -n "${NMS_REVIEW-}" ] || [ -e "$program" ] || program=nms_review
+map=${MAP:-$here/../import/taq-trades.toml}
 
 text() { case $file in *.gz) gzip -dc "$file" ;; *) cat "$file" ;; esac; }
 

@@ -5,7 +5,8 @@
     board.apply_text("Q,N,ABC,A,9.99,200,10.00,300")
     print(board.best("ABC").offer)
 
-libnms.so is taken from NMS_LIBRARY if that is set, else from where ./nms_lib builds it in this repository.
+The library is the file in NMS_LIBRARY if that is set. Else it is libnms.so.1 beside this file (a wheel has it there), in lib/
+of the installation that this file is part of, or what this file's repository built or released. nms.arrays takes numpy's arrays.
 
 Prices are whole 1/10,000 dollars, sizes are shares, money is whole nanodollars: int, and no float anywhere.
 
@@ -24,8 +25,9 @@ from typing import Dict, List, NamedTuple, Optional, Tuple, Type
 __all__ = ["Board", "Doubt", "Market", "NmsError", "OrderSide", "Place", "Plan", "Row", "Best", "Leg", "Order", "setup_place"]
 
 _HERE = os.path.dirname(os.path.realpath(__file__))
-_BUILT = os.path.join(_HERE, "..", "..", "crates", "nms_c", "out", "libnms.so")
 _ABI, _MOST_PARTS = 1, 32
+# Where the library may be, seen from here: in a wheel, in an installation, and in a repository.
+_PLACES = (f"libnms.so.{_ABI}", f"../../../../lib/libnms.so.{_ABI}", "../../crates/nms_c/out/libnms.so", "../../release/x86_64-linux/libnms.so")
 _OK, _RANGE, _NO_PART, _NO_SYM, _DOUBTED = 0, 10, 11, 12, 16
 _MOST_PRICE, _MOST_SHARES = 99_999_999_999, 999_999_999
 
@@ -99,18 +101,42 @@ _CALLS = {
 }
 
 
+def _path() -> str:
+    """The file of the library."""
+    found = [os.path.normpath(os.path.join(_HERE, it)) for it in _PLACES]
+    path = os.environ.get("NMS_LIBRARY", "") or next((it for it in found if os.path.exists(it)), "")
+    if not os.path.exists(path):
+        raise ImportError(f"{path or f'libnms.so.{_ABI}'} is not there. Places that were tried: {', '.join(found)}. NMS_LIBRARY names another")
+    return path
+
+
+def _fits(machine: str, flags: str) -> bool:
+    """Whether the library runs on a processor, by its name and its flags. No flags: they can't be read, so nobody knows."""
+    return machine == "x86_64" and (not flags or "sse4_1" in flags.split())
+
+
+def _processor() -> Tuple[str, str]:
+    """The name and the flags of this processor."""
+    try:
+        with open("/proc/cpuinfo", encoding="ascii", errors="replace") as file:
+            flags = next((line.partition(":")[2] for line in file if line.startswith("flags")), "")
+    except OSError:
+        flags = ""
+    return os.uname().machine, flags
+
+
 def _load() -> ctypes.PyDLL:
     """The library, with the types of its functions; refuses one of another layout."""
-    path = os.environ.get("NMS_LIBRARY", _BUILT)
-    if not os.path.exists(path):
-        raise ImportError(f"{path} is not there: ./nms_lib builds it")
+    path = _path()
+    if not _fits(*_processor()):
+        raise ImportError(f"{path} needs a processor of x86-64 with SSE4.1")
     # CDLL would let the interpreter's lock go, so that two threads could be in calls on one board at once.
     library = ctypes.PyDLL(path)
     for name, arguments in _CALLS.items():
         function = getattr(library, name)
         function.argtypes, function.restype = arguments, c_uint32
     if library.nms_abi() != _ABI or any(ctypes.sizeof(it) != size for it, size in _SIZES.items()):
-        raise ImportError(f"{path} is of another version than nms.py")
+        raise ImportError(f"{path} is of another version than {__name__}")
     return library
 
 
@@ -282,8 +308,9 @@ class Board:
         """Gives the board's memory back. Every other call is refused from then on."""
         if self._is_open:
             self._is_open = False
-            for kept in (self._parts, self._syms, self._names):
-                kept.clear()
+            self._parts.clear()
+            self._syms.clear()
+            self._names.clear()
             _must(_LIBRARY.nms_raw_close(byref(self._board)))
 
     def __enter__(self) -> "Board":
@@ -335,7 +362,7 @@ class Board:
         """How many changes were applied: the version that answers rest on."""
         counts = _Counts()
         _must(_LIBRARY.nms_raw_counts_of(byref(self._board), byref(counts)))
-        return counts.applied
+        return int(counts.applied)
 
     def apply_text(self, record: str) -> None:
         """Applies the change that a record says, as `Q,N,ABC,A,9.99,200,10.00,300`. A refused one alters nothing."""
