@@ -53,21 +53,30 @@ fn draw_timed<T, W: Write>(
 where
     T: AllocGlobal + Clock + Eprint + Files,
 {
-    let frame = frame_of(rt, request, times)?;
+    match frame_of(rt, request, times) {
+        Ok(frame) => draw_planned(rt, screen, setup, request, &frame, sym, answers),
+        Err(fault) => Err(fault),
+    }
+}
+
+/// Draws the versions of a frame, with a plan if one was given.
+fn draw_planned<T, W: Write>(
+    rt: &T,
+    screen: Screen,
+    setup: &Setup,
+    request: &Request<'_>,
+    frame: &Frame<'_>,
+    sym: Sym,
+    answers: &mut W,
+) -> Result<Ending, Fault>
+where
+    T: AllocGlobal + Clock + Eprint + Files,
+{
     let Some(path) = request.plan else {
-        return draw_frame(rt, screen, setup, request, &frame, sym, None, answers);
+        return draw_frame(rt, screen, setup, request, frame, sym, None, answers);
     };
     let plan = read_file(rt, path, About::Plan)?;
-    draw_frame(
-        rt,
-        screen,
-        setup,
-        request,
-        &frame,
-        sym,
-        Some(&plan),
-        answers,
-    )
+    draw_frame(rt, screen, setup, request, frame, sym, Some(&plan), answers)
 }
 
 /// Draws the versions of a frame, with a plan and with executions if those were given.
