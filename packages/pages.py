@@ -17,7 +17,8 @@ EDITS = (
     ("README.md", r"(?<=^## Commands\n\n)(?:    .*\n)+\n.*\n",
      "    nms_tool < examples/sweep.script    the main job\n    nms_selftest                        whether this installation works\n\n"
      "The commands of these pages run in a folder with copies of `share/nms/examples` and `share/nms/rust`.\n"),
-    ("README.md", r"^\| (?:Toolchain|Memory, disk) \|.*\n", ""),
+    ("README.md", r"^\| To prove \|.*\n", ""),
+    ("README.md", r"; for `\./gate quick` `python3`", ""),
     ("README.md", r"^\| take the code over \|.*\n", ""),
     ("README.md", r"`\./nms_lib`, then `[^`]*`", "`gcc YOURS.c $(pkg-config --cflags --libs nms)`"),
     ("docs/CALLING.md", r"(?<=^## The library\n\n)    \./nms_lib\n\n.*\n",
@@ -30,7 +31,7 @@ EDITS = (
     ("docs/CALLING.md", r"PYTHONPATH=python python3", "python3"),
     ("docs/CALLING.md", r"^\| \[Rattle\].*\n", ""),
     ("docs/CALLING.md", r"^## From Rattle\n(?s:.*)", ""),
-    ("docs/(IMPORT|REVIEW|SERVING).md", r"^The first call .*\n\n", ""),
+    ("docs/(IMPORT|REVIEW|SERVING).md", r"^The released program .*\n\n", ""),
     ("docs/SERVING.md", r"^The run once more, (.*):\n\n    tests/replay\.py .*\n\n`day\.asks`.*\n",
      r"`tests/replay.py` of the sources makes the run once more, \1.\n"),
     ("docs/INSTALL.md", r"^## To make the packages\n(?s:.*?)(?=^## |\Z)", ""),
