@@ -64,7 +64,7 @@ class Tried:
         return said
 
     def selftest(self, what, command, skips):
-        """nms_selftest passes, and skips just that many tests."""
+        """nms_selftest passes; `skips` is the number of tests that it skips."""
         said = self.does(what, command, lambda status, said: status == 0 and ended(said)[0] > 30 and ended(said)[1] == 0)
         skipped = [line for line in said.splitlines() if line.startswith("skipped: ")]
         check(f"{what}: it skips {skips}", len(skipped) == skips == ended(said)[2], skipped)

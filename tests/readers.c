@@ -1,7 +1,7 @@
 /* Looks that run together: four threads make all 13 looks at one board under a reader's lock, while a fifth applies changes
  * under the writer's. What a reader is answered has to be, byte for byte, what a single thread is answered at that version.
  *
- *     readers SETUP [ROUNDS]      the built-in setup; each reader makes all looks that many times, 10,000 by default
+ *     readers SETUP [ROUNDS]      the built-in setup; each reader makes all looks ROUNDS times, 10,000 by default
  *
  * Prints the first differences, and last `N passed, M failed`.
  */

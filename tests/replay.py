@@ -1051,7 +1051,7 @@ def told_at_once(program, tool):
                 if how == "made again":
                     it.room.fifo("a")
                 other.write(b"?\n")
-                check(f"{it.what}: the fault is told", heard.has("E5: B:1: L1"), heard.lines)
+                check(f"{it.what}: the fault is reported", heard.has("E5: B:1: L1"), heard.lines)
                 check(f"{it.what}: it ends", ended(started) == 6, started.returncode)
     with Failing(program, tool, "a FIFO that is removed before its first writer, and a fault elsewhere") as it:
         fifos = it.room.fifo("a"), it.room.fifo("b")
