@@ -7,7 +7,7 @@ use Rattle.std.proofs.lemmas.Bool.Decides.{nat_tests}
 use Rattle.std.proofs.lemmas.List.{map-append}
 use Rattle.std.proofs.lemmas.Option.{same_Some, none-some, slice_get-get_or, slice_get-map}
 use Rattle.std.specs.List.{list_all}
-use Rattle.nms_quote.specs.Names.{number_after, is_digit, word_of, words_of}
+use Rattle.nms_quote.specs.Names.{number_after, is_digit, values_of, word_of, words_of}
 use Rattle.nms_quote.specs.Roster.{Name}
 
 -- the number whose digits are bytes, the last digit first
@@ -92,3 +92,9 @@ pub words_of-added : {Z : Type 0} (table after : List (Name × Z)) (words : List
     (word : ℕ) → word ≡ word_of name → after ≡ table ++ (name, value) ∷ [] → words ++ word ∷ [] ≡ words_of after
 words_of-added table after words are name value word is added =
     (λ j. are j ++ is j ∷ []) ∙ sym (ap words_of added ∙ map-append (λ entry. word_of entry.0) table ((name, value) ∷ []))
+
+-- the values of a table with one entry more
+pub values_of-added : {Z : Type 0} (table after : List (Name × Z)) (values : List Z) → values ≡ values_of table → (name : Name) (value : Z)
+    → after ≡ table ++ (name, value) ∷ [] → values ++ value ∷ [] ≡ values_of after
+values_of-added table after values are name value added =
+    (λ j. are j ++ value ∷ []) ∙ sym (ap values_of added ∙ map-append (λ entry. entry.1) table ((name, value) ∷ []))

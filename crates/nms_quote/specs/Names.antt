@@ -25,3 +25,7 @@ word_of text = if nat_le (length text) 8 && list_all is_digit text then number_a
 -- the words of the names
 abbrev pub words_of : {Z : Type 0} → List (Name × Z) → List ℕ
 words_of entries = map (λ entry. word_of entry.0) entries
+
+-- the values of the entries
+abbrev pub values_of : {Z : Type 0} → List (Name × Z) → List Z
+values_of entries = map (λ entry. entry.1) entries

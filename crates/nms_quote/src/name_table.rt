@@ -17,6 +17,8 @@ use std::marker::Model;
 pub(crate) struct NameTable<V: Copy> {
     entries: IndexMap<String, V>,
     words: Vec<u64>,
+    /// The values once more, since a record looks up two of them.
+    values: Vec<V>,
     hints: Hints,
 }
 
@@ -24,13 +26,13 @@ impl<V: Copy> Model for NameTable<V> {
     ghost use Rattle.std.specs.Prelude.{List, ℕ, ◌≡◌};
     ghost use Rattle.std.specs.String.{string_eq};
     ghost use Rattle.indexmap.specs.IndexMap.{IsUnique};
-    ghost use Rattle.nms_quote.specs.Names.{named, words_of};
+    ghost use Rattle.nms_quote.specs.Names.{named, values_of, words_of};
 
     ghost Value = { List (List ℕ × V) };
 
     ghost view = { λ t. named t.entries.entries };
 
-    ghost invariant = { λ t. IsUnique string_eq t.entries × (t.words.items ≡ words_of (named t.entries.entries)) };
+    ghost invariant = { λ t. IsUnique string_eq t.entries × (t.words.items ≡ words_of (named t.entries.entries)) × (t.values.items ≡ values_of (named t.entries.entries)) };
 }
 
 impl<V: Copy> NameTable<V> {
@@ -45,6 +47,7 @@ impl<V: Copy> NameTable<V> {
         Ok(NameTable {
             entries: IndexMap::new(alloc),
             words: Vec::new(alloc),
+            values: Vec::new(alloc),
             hints,
         })
     }
@@ -100,8 +103,7 @@ impl<V: Copy> NameTable<V> {
         requires { place < length self.now }
         ensures { option_map (λ entry. entry.1) (slice_get self.now place) ≡ Some result }
     {
-        let (_, value) = self.entries.get_index(place).unwrap();
-        *value
+        self.values[place]
     }
 
     /// Why an entry may not be added, the first reason that holds: its name's form, its name is there already, or
@@ -141,8 +143,13 @@ impl<V: Copy> NameTable<V> {
         let Ok(_) = self.words.push(word) else {
             return Err(RosterFault::NoMemory);
         };
+        let Ok(_) = self.values.push(value) else {
+            let _ = self.words.pop();
+            return Err(RosterFault::NoMemory);
+        };
         if !put_last(&mut self.entries, name, value) {
             let _ = self.words.pop();
+            let _ = self.values.pop();
             return Err(RosterFault::NoMemory);
         }
         self.hints.set(word, place);
