@@ -18,6 +18,8 @@ import tempfile
 import tomllib
 from dataclasses import dataclass, field
 
+from drawn import clock
+
 HERE = os.path.dirname(os.path.realpath(__file__))
 MAPS = os.path.join(HERE, "../examples/import")
 SETUP = os.path.join(HERE, "../examples/market.toml")
@@ -140,10 +142,9 @@ def side_of(layout, price, size, lot):
     return (f"{price // 10000}.{price % 10000:04},{shares}",)
 
 
-def clock(layout, nanos):
-    """The 15 digits of nanoseconds after a midnight, in the layout's zone."""
-    second, nano = (nanos // 10 ** 9 + layout.zone) % 86400, nanos % 10 ** 9
-    return f"{second // 3600:02}{second // 60 % 60:02}{second % 60:02}{nano:09}"
+def zoned(layout, nanos):
+    """Nanoseconds after a midnight as a time of day of 15 digits in the layout's zone."""
+    return clock((nanos + layout.zone * 10 ** 9) % (86400 * 10 ** 9))
 
 
 def time_of(layout, text):
@@ -154,17 +155,17 @@ def time_of(layout, text):
         text = text.ljust(15, "0")
         return text if int(text[:2]) < 24 and int(text[2:4]) < 60 and int(text[4:6]) < 60 else None
     if layout.form == "unix_ns":
-        return clock(layout, int(text)) if re.fullmatch("[0-9]{1,19}", text) else None
+        return zoned(layout, int(text)) if re.fullmatch("[0-9]{1,19}", text) else None
     if layout.form == "seconds":
         found = re.fullmatch(r"([0-9]{1,5})(?:\.([0-9]{1,9}))?", text)
         if not found or int(found[1]) >= 86400:
             return None
-        return clock(layout, int(found[1]) * 10 ** 9 + int((found[2] or "").ljust(9, "0")))
+        return zoned(layout, int(found[1]) * 10 ** 9 + int((found[2] or "").ljust(9, "0")))
     found = re.fullmatch(r".{10}[T ]([0-9]{2}):([0-9]{2}):([0-9]{2})(?:\.([0-9]{1,9}))?Z?", text)
     if not found or int(found[1]) > 23 or int(found[2]) > 59 or int(found[3]) > 59:
         return None
     second = int(found[1]) * 3600 + int(found[2]) * 60 + int(found[3])
-    return clock(layout, second * 10 ** 9 + int((found[4] or "").ljust(9, "0")))
+    return zoned(layout, second * 10 ** 9 + int((found[4] or "").ljust(9, "0")))
 
 
 def state_of(layout, it):
