@@ -64,7 +64,7 @@ def files_of():
 FILES = files_of()
 FOLDERS = {os.path.dirname(it) for it in FILES} | {os.path.dirname(os.path.dirname(it)) for it in FILES}
 PAGES = sorted(it for it in FILES if it in ("README.md", "CHANGELOG.md") or re.fullmatch(r"(docs|examples|tests)/\w+\.md", it))
-CRATES = [re.split(r"[ :]", line)[0] for line in read("crates.txt").split("\n") if re.match(r"nms_\w+", line)]
+CRATES = list(claims.crates.listed())
 PORTED = set(re.findall(r"[a-z]\w+", re.sub(r"#.*|\w+=\S+", "", read("crates.txt"))))
 
 

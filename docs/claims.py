@@ -15,6 +15,9 @@ import re
 import sys
 
 TOP = os.path.dirname(os.path.dirname(os.path.realpath(__file__)))
+sys.path.insert(0, f"{TOP}/build")
+import crates
+
 MADE = re.compile(r"(<!-- made: words -->\n).*?(<!-- end -->)", re.S)
 PAGE = "docs/ARCHITECTURE.md"
 # Words of a sentence that stands whole among the words of ARCHITECTURE.md.
@@ -26,11 +29,6 @@ NUMBERS = {"number", "value", "place", "count", "at", "low", "high", "within", "
 def read(file):
     with open(os.path.join(TOP, file), encoding="utf-8") as it:
         return it.read()
-
-
-def crates():
-    """The crates of crates.txt, lowest first, each with what stands right of its colon."""
-    return dict(re.findall(r"^(nms_\w+)[^:\n]*:(.*)$", read("crates.txt"), re.M))
 
 
 def sources(crate):
@@ -138,7 +136,7 @@ class Crate:
 
 @functools.cache
 def tree():
-    return {it: Crate(it) for it in crates()}
+    return {it: Crate(it) for it in crates.listed()}
 
 
 def codes_of(kind, seen=(), within=None):
@@ -258,11 +256,7 @@ def in_short(sentence):
 
 def below(crate):
     """The crates of this repository that a crate stands on."""
-    found, stands_on = set(), crates()
-    for it in stands_on[crate].split():
-        if it in stands_on and it not in found:
-            found |= {it} | below(it)
-    return found
+    return set(crates.below(crates.listed(), crate))
 
 
 def words():
