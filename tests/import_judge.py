@@ -410,7 +410,7 @@ def setup_of(text, symbols, opened):
 
 
 def judge_shards(program, layout, dice, rows, limit, symbols, numbers):
-    """The same with --shards, a tape of few changes and that many symbols."""
+    """The same with --shards, a tape of few changes and a number of symbols."""
     parts, _ = roster()
     names = sorted({"".join(dice.choice("ABCDEFGH.") for _ in range(dice.randrange(1, 9))) for _ in range(symbols)} | {"BRK.B", "ABC"})
     made = sorted((random_row(layout, dice, parts, names) for _ in range(rows)), key=lambda row: row[2:3])

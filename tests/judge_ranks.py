@@ -217,7 +217,7 @@ def shown(view):
 
 
 def opens(library, seed, count):
-    """Whether a board after that many of its changes opens another one that shows the same."""
+    """Whether a board after a number of its changes opens another one that shows the same."""
     chance = random.Random(seed)
     parts, syms, calm = chance.randrange(2, MOST_PARTS + 1), chance.randrange(1, len(LOTS) + 1), seed % 4 == 0
     with Opened(library, parts, syms) as board, Opened(library, parts, syms) as again:
