@@ -123,12 +123,11 @@ def check(case, _):
 KINDS = {"script": script, "report": report, "check": check, "command": lambda case, _: command(case), "stream": lambda case, _: command(case)}
 
 
-def below(case):
+def section(case):
     """The run of EXAMPLES that shows a case."""
-    if case.setup is None:
-        raise Wrong("no setup stands before it")
+    _, files = under(case)
     head = f"== {case.title}\n".encode()
-    return Call([], 0, head + case.gives, b"", given=b"== setup\n" + case.setup + head + case.body)
+    return Call([], 0, head + case.gives, b"", given=b"== setup\n" + files.get("setup.toml", b"") + head + case.body)
 
 
 def calls_of(case, statuses, program, examples):
@@ -140,7 +139,7 @@ def calls_of(case, statuses, program, examples):
     if case.kind in KINDS:
         yield program, KINDS[case.kind](case, statuses)
     if case.kind in BELOW | PARTLY:
-        yield examples, below(case)
+        yield examples, section(case)
 
 
 def all_cases():
@@ -193,7 +192,7 @@ def trials(program, examples=None):
         named.update(files)
         yield program, call
         if case:
-            yield examples, below(case)
+            yield examples, section(case)
 
     for row in table():
         take(row[0], lambda row=row: of_row(row))

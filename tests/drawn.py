@@ -94,6 +94,7 @@ def drawn_record(chance):
 
 
 def script(chance, number):
+    """The lines of a case of a script."""
     machine, records = Machine(QUEUE, TAPE, dict.fromkeys(SYMS, LOT)), [drawn_record(chance) for _ in range(40)]
     lines, refused = answers(machine, records)
     counts = f"{len(records)} read, {refused} refused, {len(machine.tape)} taken, {machine.published} published"
@@ -118,6 +119,7 @@ def drawn_sides(chance, base):
 
 
 def orders(chance, number):
+    """The lines of a case of orders."""
     base = chance.choice([100_000, 100_000, 9_999])
     board, records, lines = {}, [], []
     for version in range(1, 26):
@@ -153,6 +155,7 @@ def drawn_change(chance, base, parts, board):
 
 
 def live(chance, number):
+    """The lines of a case of a live run."""
     base, board = chance.choice([100_000, 9_999]), {}
     desks, queue = chance.choice([1, 2, 16]), chance.choice([2, 16])
     feeds = [[drawn_change(chance, base, parts, board) for _ in range(chance.randrange(100))] for parts in ("NP", "YZ")]
@@ -230,6 +233,7 @@ def changes_of(side, quotes):
 
 
 def audit(chance, number):
+    """The lines of a case of an audit."""
     order, quotes, plan, cuts = drawn_audit(chance)
     (_, filled, cost), found = plan, doubt(order, quotes, plan, cuts)
     if found is None and (-filled, cost) != best_way(order, quotes):
