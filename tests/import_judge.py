@@ -85,12 +85,15 @@ LAYOUTS = [
 ]
 
 
+# The setup, and the round lot of each of its symbols.
+with open(SETUP, "rb") as market:
+    MARKET = tomllib.load(market)
+LOTS = {it["name"]: it["lot"] for it in MARKET["symbol"]}
+
+
 def roster():
     """The participants and the symbols of the setup, in order."""
-    with open(SETUP, encoding="utf-8") as file:
-        text = file.read()
-    parts, _, syms = text.partition("[[symbol]]")
-    return re.findall(r'^name = "(.*)"', parts, re.M), re.findall(r'^name = "(.*)"', syms, re.M)
+    return [it["name"] for it in MARKET["participant"]], list(LOTS)
 
 
 def price_of(layout, text):
@@ -112,15 +115,6 @@ def price_of(layout, text):
     if number > 99999999999:
         raise ValueError
     return number or None
-
-
-def lots():
-    """The round lot of each symbol of the setup."""
-    with open(SETUP, "rb") as file:
-        return {it["name"]: it["lot"] for it in tomllib.load(file)["symbol"]}
-
-
-LOTS = lots()
 
 
 def side_of(layout, price, size, lot):
