@@ -48,7 +48,7 @@ def given_of(cell):
 
 
 def example(row):
-    """The call of a row, the case of its script for EXAMPLES if it has one, and the files of examples/ that it names."""
+    """The call of a row, and the files of examples/ that it names."""
     ran = re.fullmatch(r"`\./nms_tool ?(.*?)(?: ?< ?(\S+))?`", row[0])
     outputs, status, errors = given_of(row[1])
     if not ran or len(outputs) > 1 or not (outputs or row[1].startswith("nothing")):
@@ -58,16 +58,18 @@ def example(row):
     files = {it: example_file(os.path.basename(it)) for it in named}
     given = files.get(ran[2], b"")
     answers = example_file(outputs[0]) if outputs else b""
-    setup = files[words[-1]] if "--setup" in words else b""
-    case = scripted(ran[2], given, setup, answers) if ran[2] and not status else None
-    return Call(words, status, answers, errors, files, given), case, {os.path.basename(it) for it in named} | set(outputs)
+    return Call(words, status, answers, errors, files, given), {os.path.basename(it) for it in named} | set(outputs)
 
 
-def scripted(name, script, setup, answers):
-    """The case of an example's script. It takes all that it publishes last."""
+def counted(call):
+    """The case of an example's script, with its counts: all that it takes is published. None if the call runs no script."""
+    status, answers, _ = call.wanted
+    if call.words[:1] not in ([], ["script"]) or status:
+        return None
     published = re.findall(rb"^PUB,(\d+)$", answers, re.M)[-1].decode()
-    counts = f"{len(script.splitlines())} read, {answers.count(b'ERR,')} refused, {published} taken, {published} published\n"
-    return Case("examples", f"script {os.path.basename(name)}", script + b"-- gives\n" + answers + counts.encode(), setup)
+    counts = f"{len(call.given.splitlines())} read, {answers.count(b'ERR,')} refused, {published} taken, {published} published\n"
+    setup = call.files[call.words[-1]] if "--setup" in call.words else b""
+    return Case("examples", "script of an example", call.given + b"-- gives\n" + answers + counts.encode(), setup)
 
 
 # The cases.
@@ -188,10 +190,10 @@ def trials(program, examples=None):
             found.append((name, differs, (str(fault),)))
 
     def of_row(row):
-        call, case, files = example(row)
+        call, files = example(row)
         named.update(files)
         yield program, call
-        if case:
+        if case := counted(call):
             yield examples, section(case)
 
     for row in table():
