@@ -59,17 +59,17 @@ def lines_of_crates():
 
 
 def listed():
-    """The crates of this repository that each crate of crates.txt names."""
+    """The crates of this repository that each crate of crates.txt names, lowest first."""
     lines = lines_of_crates()
     return {name: [it for it in line.partition(":")[2].split() if it in lines] for name, line in lines.items()}
 
 
 def below(crates, name):
     """The crates below one, each after those that it names."""
-    found = []
-    for low in crates[name]:
-        found += [it for it in [*below(crates, low), low] if it not in found]
-    return found
+    found = set(crates[name])
+    for it in reversed(crates):
+        found.update(crates[it] if it in found else ())
+    return [it for it in crates if it in found]
 
 
 def processors():

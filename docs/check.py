@@ -34,6 +34,8 @@ LIMITS = (("MOST_RECORDS", "records of a script"), ("MOST_CHANGES", "changes of 
 DRAWINGS = "tests/review/drawing.cases"
 DAY = "command a day with a locked and two crossed stretches, and a plan where it was made"
 SPAN = re.compile(r"`([^`]+)`")
+# It prints what is checked as a page.
+CLAIMS = "docs/claims.py"
 # The files of a release, which build/release makes: a tree may have none.
 RELEASED = {"release", "release/x86_64-linux"}
 RELEASED |= {f"release/x86_64-linux/{it}" for it in "PROVED SHA256SUMS libnms.a libnms.so nms_examples nms_review nms_serve nms_tool".split()}
@@ -62,7 +64,7 @@ def files_of():
 FILES = files_of()
 FOLDERS = {os.path.dirname(it) for it in FILES} | {os.path.dirname(os.path.dirname(it)) for it in FILES}
 PAGES = sorted(it for it in FILES if it in ("README.md", "CHANGELOG.md") or re.fullmatch(r"(docs|examples|tests)/\w+\.md", it))
-CRATES = [re.split(r"[ :]", line)[0] for line in read("crates.txt").split("\n") if re.match(r"nms_\w+", line)]
+CRATES = list(claims.crates.listed())
 PORTED = set(re.findall(r"[a-z]\w+", re.sub(r"#.*|\w+=\S+", "", read("crates.txt"))))
 
 
@@ -118,8 +120,9 @@ def check(holds, page, fault):
 
 
 def prose(page):
-    """A page without its blocks."""
-    return re.sub(r"^(```+)[^\n]*\n.*?^\1$", "", read(page), flags=re.M | re.S)
+    """A page without its blocks, or what docs/claims.py prints."""
+    text = "\n".join(map(claims.printed, claims.known())) if page == CLAIMS else read(page)
+    return re.sub(r"^(```+)[^\n]*\n.*?^\1$", "", text, flags=re.M | re.S)
 
 
 def blocks(page):
@@ -195,7 +198,7 @@ def named(page, span):
 
 def check_names():
     """Each file, crate, function, type, clause, edit and test in backquotes is there; `X` of a crate is that crate's."""
-    for page in PAGES:
+    for page in (*PAGES, CLAIMS):
         text = prose(page)
         for span in SPAN.findall(text):
             named(page, span)
@@ -209,7 +212,7 @@ def check_names():
 
 def check_codes():
     """Each code that a page names is one of the sources; help and ERRORS.md have all of them, by their names."""
-    for page in PAGES:
+    for page in (*PAGES, CLAIMS):
         for letter, number in CODE.findall(prose(page)):
             if letter in FAMILIES:
                 check(letter + number in CODES, page, f"no code {letter}{number}")
@@ -306,16 +309,17 @@ def drawn_day():
 
 
 def check_made():
-    """The parts of pages that docs/claims.py writes, and both pictures, are as the sources have them."""
-    for page in claims.PAGES:
-        there, wanted = read(page).split("\n"), claims.made(page).split("\n")
-        differing = next((old for old, new in itertools.zip_longest(there, wanted) if old != new), "")
-        check(there == wanted, page, f"docs/claims.py writes it otherwise, from this line on: {differing!r}")
-        for name in claims.named(page):
-            check(name in claims.parts(), page, f"docs/claims.py makes no part `{name}`")
-    wanted = {name for name, it in claims.tree().items() if it.functions and name not in ("nms_examples", "nms_tests")}
-    for name in sorted(wanted):
-        check(name in claims.named("docs/CLAIMS.md"), "docs/CLAIMS.md", f"it has no part on `{name}`")
+    """The words of ARCHITECTURE.md, what CLAIMS.md shows of docs/claims.py, and both pictures are as the sources have them."""
+    page = claims.PAGE
+    there, wanted = read(page).split("\n"), claims.made().split("\n")
+    differing = next((old for old, new in itertools.zip_longest(there, wanted) if old != new), "")
+    check(there == wanted, page, f"docs/claims.py --words writes it otherwise, from this line on: {differing!r}")
+    page = "docs/CLAIMS.md"
+    shown = [text for _, text in blocks(page)]
+    check(shown == [claims.printed(re.match("## (.*)", it)[1]) for it in shown], page, "docs/claims.py prints another block")
+    for name, it in sorted(claims.tree().items()):
+        if it.functions and name not in ("nms_examples", "nms_tests"):
+            check("`" in claims.printed(name), CLAIMS, f"it prints no claim of `{name}`")
     check(read("docs/crates.svg") == draw_crates.drawn(), "docs/crates.svg", "docs/draw_crates.py draws another picture")
     check(read("docs/day.svg") == drawn_day(), "docs/day.svg", f"the case `{DAY}` of {DRAWINGS} has another picture")
     page = "docs/ARCHITECTURE.md"
@@ -435,7 +439,7 @@ def check_plain():
     allowed = [it[1:].strip() for it in lines if it.startswith("+")]
     listed = [it.split(": ", 1) for it in lines if not it.startswith("+")]
     for page in PAGES:
-        text = re.sub(r"^> .*$", "", claims.PART.sub("", prose(page)), flags=re.M)
+        text = re.sub(r"^> .*$", "", claims.MADE.sub("", prose(page)), flags=re.M)
         for right in allowed:
             text = text.replace(right, "")
         for word, better in listed:

@@ -1,13 +1,13 @@
 #!/usr/bin/env python3
-"""Writes the parts of the pages that the sources say already, and finds those that differ.
+"""Prints what the sources promise; docs/CLAIMS.md says how to read it.
 
-    docs/claims.py            writes them anew
-    docs/claims.py --check    prints the pages that differ; status 1 if one does
+    docs/claims.py [NAME..]    prints the claims of the crates of these names, or of all. `faults` are the codes of each fault,
+                               `memory` the calls that may take memory
+    docs/claims.py --words     writes the words of docs/ARCHITECTURE.md again, which docs/check.py compares
 
-A part stands between the lines `<!-- made: NAME -->` and `<!-- end -->` of a page. In docs/CLAIMS.md a part is a crate's public
-functions: the first sentence of the comment without its CFR section (docs/RULES.md has them), the names of the clauses, and the
-fault; or the codes of each fault, or the calls that may take memory. In docs/ARCHITECTURE.md it is the words: each public type of the crates below nms_tool, with its file and the first sentence of
-its comment, up to the colon of a long one.
+The claims of a crate are its public functions: the first sentence of the comment without its CFR section (docs/RULES.md has
+those), the names of the clauses, and the fault. The words are the public types of the crates below nms_tool, each with its file
+and the first sentence of its comment, up to the colon of a long one. They stand between two lines of that page.
 """
 import functools
 import os
@@ -15,8 +15,11 @@ import re
 import sys
 
 TOP = os.path.dirname(os.path.dirname(os.path.realpath(__file__)))
-PART = re.compile(r"(<!-- made: (\w+) -->\n).*?(<!-- end -->)", re.S)
-PAGES = ("docs/ARCHITECTURE.md", "docs/CLAIMS.md")
+sys.path.insert(0, f"{TOP}/build")
+import crates
+
+MADE = re.compile(r"(<!-- made: words -->\n).*?(<!-- end -->)", re.S)
+PAGE = "docs/ARCHITECTURE.md"
 # Words of a sentence that stands whole among the words of ARCHITECTURE.md.
 MOST_WORDS = 18
 # The names of clauses that say a number and its bounds.
@@ -26,11 +29,6 @@ NUMBERS = {"number", "value", "place", "count", "at", "low", "high", "within", "
 def read(file):
     with open(os.path.join(TOP, file), encoding="utf-8") as it:
         return it.read()
-
-
-def crates():
-    """The crates of crates.txt, lowest first, each with what stands right of its colon."""
-    return dict(re.findall(r"^(nms_\w+)[^:\n]*:(.*)$", read("crates.txt"), re.M))
 
 
 def sources(crate):
@@ -138,7 +136,7 @@ class Crate:
 
 @functools.cache
 def tree():
-    return {it: Crate(it) for it in crates()}
+    return {it: Crate(it) for it in crates.listed()}
 
 
 def codes_of(kind, seen=(), within=None):
@@ -178,7 +176,7 @@ def is_fault(kind):
 
 
 def faults():
-    """The part of CLAIMS.md on the codes of each fault."""
+    """The codes of each fault."""
     kinds = dict.fromkeys(it for crate in tree().values() for it in crate.enums if is_fault(it))
     return "\n".join(["|Fault|Codes|", "|---|---|", *(f"|`{it}`|{shortened(codes_of(it))}|" for it in kinds)]) + "\n"
 
@@ -198,7 +196,7 @@ def may_take_memory(function):
 
 
 def memory():
-    """The part of CLAIMS.md on the calls that may take memory."""
+    """The calls that may take memory."""
     rows = {crate.name: [it.name for it in crate.functions if may_take_memory(it)] for crate in tree().values()}
     made = [f"|`{crate}`|{', '.join(f'`{it}`' for it in names)}|" for crate, names in rows.items() if names]
     return "\n".join(table("|Crate|Calls|", made)) + "\n"
@@ -223,7 +221,7 @@ ALONE = {"safe": "What is written is safe for a terminal (`safe`)", "kind": "Whi
 
 
 def claims_of(crate):
-    """The part of CLAIMS.md on a crate."""
+    """What a crate promises."""
     calls, laws, numbers, plain, bare = [], [], [], [], []
     alone = {head: [] for head in ALONE.values()}
     for it in crate.functions:
@@ -258,16 +256,11 @@ def in_short(sentence):
 
 def below(crate):
     """The crates of this repository that a crate stands on."""
-    found, stands_on = set(), crates()
-    for it in stands_on[crate].split():
-        if it in stands_on and it not in found:
-            found |= {it} | below(it)
-    return found
+    return set(crates.below(crates.listed(), crate))
 
 
 def words():
-    """The part of ARCHITECTURE.md on the public types of the product's crates, those below nms_tool, but for faults and the
-    words of a call."""
+    """The public types of the product's crates, those below nms_tool, but for faults and the words of a call."""
     text, product = "|Type|File in `src/`|What it is|\n|---|---|---|\n", below("nms_tool")
     for crate in (it for it in tree().values() if it.name in product and not it.name.endswith("_words")):
         shown = [it for it in crate.types.values() if not is_fault(it.name)]
@@ -276,33 +269,32 @@ def words():
     return text
 
 
-@functools.cache
-def parts():
-    """Each part by its name."""
-    return {"words": words(), "faults": faults(), "memory": memory(), **{it.name: claims_of(it) for it in tree().values()}}
+def known():
+    """The names by which claims are printed."""
+    return [*tree(), "faults", "memory"]
 
 
-def made(page):
-    """A page with its parts written anew."""
-    there = parts()
-    return PART.sub(lambda it: it[1] + there.get(it[2], it[0]) + it[3], read(page))
+def printed(name):
+    """The claims of a crate, or what else has that name."""
+    text = {"faults": faults, "memory": memory}.get(name, lambda: claims_of(tree()[name]))()
+    return f"## {name}\n\n{text}"
 
 
-def named(page):
-    """The parts that a page has."""
-    return [it[1] for it in PART.findall(read(page))]
+def made():
+    """The page with its words written again."""
+    return MADE.sub(lambda it: it[1] + words() + it[2], read(PAGE))
 
 
-def main(words_of_call):
-    differing = [it for it in PAGES if made(it) != read(it)]
-    for page in differing:
-        if words_of_call != ["--check"]:
-            text = made(page)
-            with open(os.path.join(TOP, page), "w", encoding="utf-8") as it:
-                it.write(text)
-        print(f"{page} {'differs' if words_of_call == ['--check'] else 'is written'}")
-    return 1 if differing and words_of_call == ["--check"] else 0
+def main(names):
+    if names == ["--words"]:
+        text = made()
+        with open(os.path.join(TOP, PAGE), "w", encoding="utf-8") as page:
+            page.write(text)
+        return
+    if set(names) - set(known()):
+        sys.exit(__doc__)
+    print("\n".join(map(printed, names or known())), end="")
 
 
 if __name__ == "__main__":
-    sys.exit(main(sys.argv[1:]))
+    main(sys.argv[1:])

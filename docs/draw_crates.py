@@ -8,33 +8,18 @@ A line goes down from a crate to each crate that it stands on. A line is left ou
 stands above all that it stands on.
 """
 import os
-import re
 import sys
 
 TOP = os.path.dirname(os.path.dirname(os.path.realpath(__file__)))
+sys.path.insert(0, f"{TOP}/build")
+from crates import below, listed
+
 FILE = os.path.join(TOP, "docs", "crates.svg")
 # The groups: the programs that each stands below, its colour and its name. The product stands under the others, which use it.
 GROUPS = ((("nms_tool", "nms_serve", "nms_c", "nms_engine"), "#dbe9f6", "the product: nms_tool, nms_serve, and nms_c for other languages"),
           (("nms_review",), "#e3f1dc", "the reviewer's program"),
           (("nms_examples", "nms_tests"), "#f3e6d8", "the gate"))
 WIDE, HIGH, GAP, RISE, EDGE = 134, 24, 8, 76, 20
-
-
-def stands_on():
-    """Each crate with the crates of this repository that crates.txt names for it."""
-    with open(os.path.join(TOP, "crates.txt"), encoding="utf-8") as it:
-        lines = dict(re.findall(r"^(nms_\w+)[^:\n]*:(.*)$", it.read(), re.M))
-    return {name: [it for it in text.split() if it in lines] for name, text in lines.items()}
-
-
-def below(on, name, seen=None):
-    """All that a crate stands on."""
-    seen = set() if seen is None else seen
-    for it in on[name]:
-        if it not in seen:
-            seen.add(it)
-            below(on, it, seen)
-    return seen
 
 
 def reduced(on):
@@ -87,7 +72,7 @@ def placed(on):
 
 def drawn():
     """The text of the picture."""
-    on = stands_on()
+    on = listed()
     where, frames = placed(on)
     group, fewer = group_of(on), reduced(on)
     wide = round(max(it[0] + it[2] for it in frames.values()) + EDGE)

@@ -1,29 +1,28 @@
 #!/usr/bin/env python3
-"""Runs every example of examples/ and every case of this folder that a call of the program can show, and compares what it
-writes on both streams and its status with what must come.
+"""Runs every example of examples/ and every case, and compares what comes on both streams and the status with what must come.
 
-    tests/check.py [PROGRAM]      PROGRAM is nms_tool
+    tests/check.py [PROGRAM [EXAMPLES]]      PROGRAM is nms_tool, EXAMPLES is nms_examples
 
-None is left out by forgetting: the runs are the rows of the table in examples/README.md, each file of examples/ has to be
-named by one, the cases are all that bundle.sh makes and finds, and a kind of case that is not known fails. What no call
-shows, or not whole, has to stand in the stored input of crates/nms_examples.
+PROGRAM runs what a call of it shows, EXAMPLES what no call shows whole; given by itself, PROGRAM runs only its own part. None
+is left out by forgetting: the runs are the rows of the table in examples/README.md, and each file of examples/ has to be
+named by one. The cases are all of cases/, of streams.cases, of the stored input of nms_examples, of made.py and of drawn.py.
+A kind of case that is not known fails. The stored input is what both compilers run, so it has to have each kind of case that
+EXAMPLES runs, and each kind of record.
 """
 import os
 import re
-import subprocess
 import sys
 
-import judge
-import judge_live
-import judge_orders
-import judge_plans
-from stored import EXAMPLES, TESTS, Call, bytes_of, cases_of, command, programs, read
+import drawn
+import made
+from stored import EXAMPLES, TESTS, Call, Case, bytes_of, cases_of, command, programs, read
 from trials import Trial, Wrong, compare, run
 
-# Kinds of case that no call shows, which crates/nms_examples runs.
+# Kinds of case that no call shows.
 BELOW = {"breach", "lines", "numbers", "plan", "rewrite", "settings", "steps", "text", "trials"}
-# Those that a call shows whole. Of a script it does not print the counts, of a doubt not the cut: both run them.
-WHOLE = {"report", "command", "stream"}
+# Those that a call does not show whole: of a script not the counts, of a doubt not the cut.
+PARTLY = {"script", "check"}
+STORED, RECORDS = "nms_examples/stdin", set("QSXRTFPLNEO")
 
 
 # The examples that have files of their own.
@@ -60,6 +59,17 @@ def example(row):
     given = files.get(ran[2], b"")
     answers = example_file(outputs[0]) if outputs else b""
     return Call(words, status, answers, errors, files, given), {os.path.basename(it) for it in named} | set(outputs)
+
+
+def counted(call):
+    """The case of an example's script, with its counts: all that it takes is published. None if the call runs no script."""
+    status, answers, _ = call.wanted
+    if call.words[:1] not in ([], ["script"]) or status:
+        return None
+    published = re.findall(rb"^PUB,(\d+)$", answers, re.M)[-1].decode()
+    counts = f"{len(call.given.splitlines())} read, {answers.count(b'ERR,')} refused, {published} taken, {published} published\n"
+    setup = call.files[call.words[-1]] if "--setup" in call.words else b""
+    return Case("examples", "script of an example", call.given + b"-- gives\n" + answers + counts.encode(), setup)
 
 
 # The cases.
@@ -115,27 +125,40 @@ def check(case, _):
 KINDS = {"script": script, "report": report, "check": check, "command": lambda case, _: command(case), "stream": lambda case, _: command(case)}
 
 
-def call_of(case, statuses, stored):
-    """The call that shows a case; `None` if there is none, or a row of the table has it."""
-    if case.kind not in WHOLE and case.text not in stored:
-        raise Wrong("not in the stored input of crates/nms_examples")
-    if case.kind in KINDS and case.has_gives:
-        return KINDS[case.kind](case, statuses)
-    if case.kind in BELOW and (case.has_gives or case.kind == "trials"):
-        return None
-    if case.kind in ("script", "report") and case.title.split(" ")[-1] in os.listdir(EXAMPLES):
-        # A file of its own: a row of the table has its run.
-        return None
-    raise Wrong("no line `-- gives`" if case.kind in KINDS else "a kind of case that is not known")
+def section(case):
+    """The run of EXAMPLES that shows a case."""
+    _, files = under(case)
+    head = f"== {case.title}\n".encode()
+    return Call([], 0, head + case.gives, b"", given=b"== setup\n" + files.get("setup.toml", b"") + head + case.body)
 
 
-def bundled():
-    """The cases that bundle.sh makes and finds, each with the name of its file."""
-    cases = cases_of("bundle.sh", subprocess.run([f"{TESTS}/bundle.sh", "print"], capture_output=True, check=True).stdout)
-    files = {it.text[1:]: name for name in os.listdir(f"{TESTS}/cases") for it in cases_of(name, read("cases", name))}
-    for case in cases:
-        case.name = f"{files.get(case.text[1:], case.file)}: {case.title}"
-    return cases
+def calls_of(case, statuses, program, examples):
+    """The runs that show a case, each with its program."""
+    if case.kind not in BELOW and case.kind not in KINDS:
+        raise Wrong("a kind of case that is not known")
+    if not case.has_gives:
+        raise Wrong("no line `-- gives`")
+    if case.kind in KINDS:
+        yield program, KINDS[case.kind](case, statuses)
+    if case.kind in BELOW | PARTLY:
+        yield examples, section(case)
+
+
+def all_cases():
+    """The cases of all files, and those that are made and drawn."""
+    texts = {name: read("cases", name) for name in sorted(os.listdir(f"{TESTS}/cases"))}
+    texts |= {"streams.cases": read("streams.cases"), STORED: read("../crates", STORED), "made.py": made.cases().encode()}
+    texts |= {f"drawn.py, {kind}": drawn.cases(kind).encode() for kind in drawn.KINDS}
+    found = [case for name, text in texts.items() for case in cases_of(name, text)]
+    return [*found, Case("builtin.toml", "text built-in setup", b"-- gives\n" + example_file("builtin.toml"), b"")]
+
+
+def has_each_kind(cases):
+    """Raises if the stored input has not a case of each kind that EXAMPLES runs, and a record of each kind."""
+    compare("kinds of case", {it.kind for it in cases}, BELOW | PARTLY)
+    for kind in ("script", "lines"):
+        records = {line[:1].decode() for it in cases if it.kind == kind for line in it.body.splitlines()}
+        compare(f"kinds of record in {kind} that are lacking", RECORDS - records, set())
 
 
 def longest():
@@ -150,43 +173,34 @@ def longest():
     yield "a feed of as many bytes as it may have", Call(["live", "orders", "a", "b"], 6, b"", b"nms_tool: L1\n", files)
 
 
-def drawn(judge, count, file):
-    """The stored cases that a judge drew are those that it draws."""
-    compare(file, judge.cases(count).encode(), read("cases", file))
-
-
-DRAWN = (judge, 40, "random_scripts.cases"), (judge_live, 8, "random_live.cases"), (judge_orders, 20, "random_orders.cases"), (judge_plans, 100, "random_plans.cases")
-
-
 def differs(text):
     """A trial that has failed before it ran."""
     raise Wrong(text)
 
 
-def trials(program):
+def trials(program, examples=None):
     """Each example, each case, and a failed one for each file that none of them names."""
-    found, named = [(name, call.run, (program,)) for name, call in longest()], {"README.md"}
-    found += [(f"{file}: what its judge draws", drawn, (judge, count, file)) for judge, count, file in DRAWN]
+    found, named, cases = [(name, call.run, (program,)) for name, call in longest()], {"README.md"}, all_cases()
+    statuses = exits(cases)
 
     def take(name, make):
         try:
-            if call := make():
-                found.append((name, call.run, (program,)))
+            found.extend((name if by == program else f"{name}, by nms_examples", call.run, (by,)) for by, call in make() if by)
         except (Wrong, OSError, ValueError) as fault:
             found.append((name, differs, (str(fault),)))
 
     def of_row(row):
         call, files = example(row)
         named.update(files)
-        return call
+        yield program, call
+        if case := counted(call):
+            yield examples, section(case)
 
     for row in table():
         take(row[0], lambda row=row: of_row(row))
-    cases = bundled()
-    cases += cases_of("streams.cases", read("streams.cases"))
-    statuses, stored = exits(cases), {it.text for it in cases_of("stdin", read("../crates/nms_examples/stdin"))}
     for case in cases:
-        take(case.name, lambda case=case: call_of(case, statuses, stored))
+        take(case.name, lambda case=case: calls_of(case, statuses, program, examples))
+    found.append((f"{STORED}: each kind", has_each_kind, ([it for it in cases if it.file == STORED],)))
     files = [it for it in sorted(os.listdir(EXAMPLES)) if os.path.isfile(os.path.join(EXAMPLES, it))]
     found += [(f"examples/{it}", differs, ("no example runs it or compares with it",)) for it in files if it not in named]
     strays = [it for it in os.listdir(f"{TESTS}/cases") if not it.endswith(".cases")]
@@ -194,4 +208,5 @@ def trials(program):
 
 
 if __name__ == "__main__":
-    sys.exit(run("examples", trials(*programs(sys.argv[1:], "nms_tool"))))
+    NAMES = ("nms_tool",) if len(sys.argv) == 2 else ("nms_tool", "nms_examples")
+    sys.exit(run("examples", trials(*programs(sys.argv[1:], *NAMES))))

@@ -653,8 +653,9 @@ def imported_rows(program, room, mapping, head, rows, made):
 
 
 def judged(program, judge):
-    """Random files, against the plain slow program of a judge, which prints its seed and what differs."""
-    ran = called(sys.executable, [os.path.join(TESTS, judge), program], capture_output=True)
+    """Random files, against the plain slow program of a judge, which prints its seed and what differs. All its trials run."""
+    env = {name: text for name, text in os.environ.items() if name != "NMS_ONLY"}
+    ran = called(sys.executable, [os.path.join(TESTS, judge), program], capture_output=True, env=env)
     must(ran.returncode == 0, f"{ran.stdout.decode()}{ran.stderr.decode()}"[-2000:])
 
 

@@ -16,6 +16,7 @@ import subprocess
 import sys
 import tempfile
 
+from import_judge import TRADE_NAMES
 from stored import EXAMPLES, MOST
 from trials import Trial, Wrong, run
 
@@ -103,11 +104,6 @@ def real_day(program):
         must(day("torn", "2") == day("two", "2"), "what was left is not what was missing")
 
 
-TRADE_NAMES = ("Time|Exchange|Symbol|Sale Condition|Trade Volume|Trade Price|Trade Stop Stock Indicator|Trade Correction Indicator|Sequence Number|"
-               "Trade Id|Source of Trade|Trade Reporting Facility|Participant Timestamp|Trade Reporting Facility TRF Timestamp|"
-               "Trade Through Exempt Indicator")
-
-
 def made_trades(room, dice):
     """Trades in the symbols of a made day, at the times of quotes and near them, at the cuts of one of its folders, and before the
     first quote of all. Returns their file, how many they are, and the names of those in the second after a cut."""
@@ -137,7 +133,7 @@ def made_trades(room, dice):
         trades.append(f"{time:015}|{dice.choice('ABCDN')}|{symbol}|@   |{dice.randrange(1, 900)}|{max(price, 0.01):.2f}||00|1|{len(trades)}|N||||0\n")
     path = os.path.join(room, "trades.txt")
     with open(path, "w", encoding="ascii") as file:
-        file.write("\n".join([TRADE_NAMES, ""]) + "".join(trades))
+        file.write("|".join(TRADE_NAMES) + "\n" + "".join(trades))
     return path, len(trades), near
 
 

@@ -13,7 +13,7 @@ import subprocess
 import sys
 import tempfile
 
-from judge_plans import changes_of, drawn, drawn_plan
+from drawn import changes_of, drawn_audit, drawn_plan
 from rules import FEES, RANGE, best_way, cost_of, doubt, records_of, usable
 from stored import MOST, programs
 from trials import Several, Trial, Wrong, least, run
@@ -49,7 +49,7 @@ class Forged:
         return found or "confirmed"
 
     def changes(self):
-        return "".join(f"{it}\n" for it in changes_of({"side": self.side}, self.rows))
+        return "".join(f"{it}\n" for it in changes_of(self.side, self.rows))
 
     def records(self):
         plan = self.legs, self.filled, self.cost
@@ -132,7 +132,7 @@ def lawful_plans(chance, count):
     """Plans of random orders that are confirmed, and fill something. Half of the orders declare self-help."""
     naming = random.Random(611)
     while count:
-        order, rows, _, _ = drawn(chance)
+        order, rows, _, _ = drawn_audit(chance)
         order["self_help"] = frozenset(naming.sample(list(FEES), naming.choice([0, 0, 1, 2])))
         (legs, filled, cost), cuts = drawn_plan(chance, order, rows)
         it = Forged(rows, order["side"], order, (legs, filled, cost), cuts)

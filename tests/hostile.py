@@ -97,7 +97,7 @@ class Call:
 
 class Caller(Call):
     """A run of another program of this repository, which makes calls of the crates: with memory refused it gives its
-    answers, or a first part of them and status 1. With `over` refusals at least it gives all its answers."""
+    answers, or a prefix of them and status 1. With `over` refusals at least it gives all its answers."""
 
     def __init__(self, crate, name, given, over=0):
         super().__init__(f"{crate}: {name}", [], "", given=given)

@@ -18,6 +18,8 @@ import tempfile
 import tomllib
 from dataclasses import dataclass, field
 
+from drawn import clock
+
 HERE = os.path.dirname(os.path.realpath(__file__))
 MAPS = os.path.join(HERE, "../examples/import")
 SETUP = os.path.join(HERE, "../examples/market.toml")
@@ -83,12 +85,15 @@ LAYOUTS = [
 ]
 
 
+# The setup, and the round lot of each of its symbols.
+with open(SETUP, "rb") as market:
+    MARKET = tomllib.load(market)
+LOTS = {it["name"]: it["lot"] for it in MARKET["symbol"]}
+
+
 def roster():
     """The participants and the symbols of the setup, in order."""
-    with open(SETUP, encoding="utf-8") as file:
-        text = file.read()
-    parts, _, syms = text.partition("[[symbol]]")
-    return re.findall(r'^name = "(.*)"', parts, re.M), re.findall(r'^name = "(.*)"', syms, re.M)
+    return [it["name"] for it in MARKET["participant"]], list(LOTS)
 
 
 def price_of(layout, text):
@@ -112,15 +117,6 @@ def price_of(layout, text):
     return number or None
 
 
-def lots():
-    """The round lot of each symbol of the setup."""
-    with open(SETUP, "rb") as file:
-        return {it["name"]: it["lot"] for it in tomllib.load(file)["symbol"]}
-
-
-LOTS = lots()
-
-
 def side_of(layout, price, size, lot):
     """The two fields of a side, or the cause why there are none."""
     try:
@@ -140,10 +136,9 @@ def side_of(layout, price, size, lot):
     return (f"{price // 10000}.{price % 10000:04},{shares}",)
 
 
-def clock(layout, nanos):
-    """The 15 digits of nanoseconds after a midnight, in the layout's zone."""
-    second, nano = (nanos // 10 ** 9 + layout.zone) % 86400, nanos % 10 ** 9
-    return f"{second // 3600:02}{second // 60 % 60:02}{second % 60:02}{nano:09}"
+def zoned(layout, nanos):
+    """Nanoseconds after a midnight as a time of day of 15 digits in the layout's zone."""
+    return clock((nanos + layout.zone * 10 ** 9) % (86400 * 10 ** 9))
 
 
 def time_of(layout, text):
@@ -154,17 +149,17 @@ def time_of(layout, text):
         text = text.ljust(15, "0")
         return text if int(text[:2]) < 24 and int(text[2:4]) < 60 and int(text[4:6]) < 60 else None
     if layout.form == "unix_ns":
-        return clock(layout, int(text)) if re.fullmatch("[0-9]{1,19}", text) else None
+        return zoned(layout, int(text)) if re.fullmatch("[0-9]{1,19}", text) else None
     if layout.form == "seconds":
         found = re.fullmatch(r"([0-9]{1,5})(?:\.([0-9]{1,9}))?", text)
         if not found or int(found[1]) >= 86400:
             return None
-        return clock(layout, int(found[1]) * 10 ** 9 + int((found[2] or "").ljust(9, "0")))
+        return zoned(layout, int(found[1]) * 10 ** 9 + int((found[2] or "").ljust(9, "0")))
     found = re.fullmatch(r".{10}[T ]([0-9]{2}):([0-9]{2}):([0-9]{2})(?:\.([0-9]{1,9}))?Z?", text)
     if not found or int(found[1]) > 23 or int(found[2]) > 59 or int(found[3]) > 59:
         return None
     second = int(found[1]) * 3600 + int(found[2]) * 60 + int(found[3])
-    return clock(layout, second * 10 ** 9 + int((found[4] or "").ljust(9, "0")))
+    return zoned(layout, second * 10 ** 9 + int((found[4] or "").ljust(9, "0")))
 
 
 def state_of(layout, it):
@@ -409,7 +404,7 @@ def setup_of(text, symbols, opened):
 
 
 def judge_shards(program, layout, dice, rows, limit, symbols, numbers):
-    """The same with --shards, a tape of few changes and that many symbols."""
+    """The same with --shards, a tape of few changes and a number of symbols."""
     parts, _ = roster()
     names = sorted({"".join(dice.choice("ABCDEFGH.") for _ in range(dice.randrange(1, 9))) for _ in range(symbols)} | {"BRK.B", "ABC"})
     made = sorted((random_row(layout, dice, parts, names) for _ in range(rows)), key=lambda row: row[2:3])

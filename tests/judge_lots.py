@@ -14,11 +14,12 @@ import subprocess
 import sys
 import tempfile
 
+from drawn import quotation, setup_of
 from rules import Machine, answers, dollars, lot_by, plain_records, price_of
 from stored import MOST, programs
 from trials import Trial, Wrong, compare, least, run
 
-PARTS = {"N": "A", "P": "A", "Y": "B", "Z": "B"}
+PARTS = {"N": ("A", 0, 0), "P": ("A", 0, 0), "Y": ("B", 0, 0), "Z": ("B", 0, 0)}
 QUEUE, TAPE, DESKS, RECORDS = 12, 30, 2, 50
 # The opening lots of both symbols, one setup for each pair.
 LOTS = [(100, 100), (40, 10), (1, 1000), (7, 100)]
@@ -77,9 +78,8 @@ def drawn(chance):
     letter = chance.choice("AAAAMH")
     kind = chance.choices("QSXRTFPLNEr", [40, 6, 3, 22, 5, 15, 2, 2, 18, 8, 1])[0]
     if kind == "Q":
-        (bid, says_bid), (offer, says_offer) = drawn_side(chance), drawn_side(chance)
-        change = "Q", part, sym, letter, {"BID": says_bid, "OFFER": says_offer}
-        return f"Q,{part},{sym},{letter},{bid},{offer}", ("send", change)
+        record, change = quotation(chance, drawn_side, part, sym, letter)
+        return record, ("send", change)
     if kind == "R":
         record = drawn_lot(chance)
         return record, read_lot(record)
@@ -89,15 +89,6 @@ def drawn(chance):
     if kind == "r":
         return f"r,{sym},40", ("refused", "L1")
     return plain_records(part, sym, letter, desk)[kind]
-
-
-def setup(lots):
-    text = f"tape_limit = {TAPE}\nqueue = {QUEUE}\ndesks = {DESKS}\n"
-    for name, feed in PARTS.items():
-        text += f'[[participant]]\nname = "{name}"\nfeed = "{feed}"\nfee = 0\nrate = 0\n'
-    for name, shares in zip(("ABC", "PNY"), lots):
-        text += f'[[symbol]]\nname = "{name}"\nlot = {shares}\n'
-    return text
 
 
 def judge(program, path, lots, script):
@@ -135,7 +126,7 @@ def main(program, count=2000, seed=242_600):
         paths = [f"{room}/{place}.toml" for place in range(len(LOTS))]
         for path, lots in zip(paths, LOTS):
             with open(path, "w", encoding="ascii") as file:
-                file.write(setup(lots))
+                file.write(setup_of(PARTS, dict(zip(("ABC", "PNY"), lots)), TAPE, QUEUE, DESKS))
         places = [(number, number % len(LOTS), script) for number, script in enumerate(scripts)]
         return run("lots", [Trial(f"script {number}", judged, (program, paths[at], LOTS[at], script)) for number, at, script in places])
 

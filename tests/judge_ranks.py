@@ -19,6 +19,7 @@ import random
 import sys
 from ctypes import POINTER, Structure, byref, c_char, c_size_t, c_uint8, c_uint16, c_uint32, c_uint64, c_void_p
 
+from drawn import setup_of
 from trials import Trial, Wrong, run
 
 TOP = os.path.dirname(os.path.dirname(os.path.realpath(__file__)))
@@ -71,11 +72,9 @@ def loaded(path):
 
 
 def setup(parts, syms):
-    """A setup with that many participants and symbols."""
-    names = "ABCDEFGHIJKLMNOPQRSTUVWXYZ012345"
-    text = "tape_limit = 100000\nqueue = 2\ndesks = 1\n"
-    text += "".join(f'[[participant]]\nname = "{it}"\nfeed = "A"\nfee = 0\nrate = 0\n' for it in names[:parts])
-    return text + "".join(f'[[symbol]]\nname = "{name}"\nlot = {lot}\n' for name, lot in zip("ABCD"[:syms], LOTS))
+    """A setup with a number of participants and of symbols."""
+    names = "ABCDEFGHIJKLMNOPQRSTUVWXYZ012345"[:parts]
+    return setup_of(dict.fromkeys(names, ("A", 0, 0)), dict(zip("ABCD"[:syms], LOTS)), 100_000, 2, 1)
 
 
 class Opened:
@@ -218,7 +217,7 @@ def shown(view):
 
 
 def opens(library, seed, count):
-    """Whether a board after that many of its changes opens another one that shows the same."""
+    """Whether a board after a number of its changes opens another one that shows the same."""
     chance = random.Random(seed)
     parts, syms, calm = chance.randrange(2, MOST_PARTS + 1), chance.randrange(1, len(LOTS) + 1), seed % 4 == 0
     with Opened(library, parts, syms) as board, Opened(library, parts, syms) as again:

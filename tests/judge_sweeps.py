@@ -26,9 +26,8 @@ import subprocess
 import sys
 import tempfile
 
-from rules import (
-    FEES, best_way, chosen, dollars, doubt, is_better, is_named, money, names_of, price_of, records_of, unit_cost
-)
+from drawn import record_of, record_of_sides, setup_of, shown
+from rules import FEES, best_way, chosen, dollars, doubt, is_better, is_named, money, names_of, price_of, records_of, unit_cost
 from stored import MOST, programs
 from trials import Trial, Wrong, least, run
 
@@ -48,15 +47,11 @@ EIGHT_FEES = {
 SMALL = list(itertools.product("AM", (9_999, 10_000, 10_001), (100, 200)))
 
 
-def setup_of(fees):
-    """The text of a setup with such fees, and round lots of 100 and of 1."""
-    parts = [f'[[participant]]\nname = "{it}"\nfeed = "A"\nfee = {fee}\nrate = {rate}\n' for it, (fee, rate) in fees.items()]
-    syms = [f'[[symbol]]\nname = "{sym}"\nlot = {lot}\n' for sym, lot in (("ABC", 100), ("PNY", 1))]
-    return "tape_limit = 999\nqueue = 9\ndesks = 1\n" + "".join(parts + syms)
-
-
 # The setups that are not the built-in one, by the name of their file.
-SETUPS = {"tied": setup_of(TIED_FEES), "eight": setup_of(EIGHT_FEES)}
+SETUPS = {
+    name: setup_of({part: ("A", *it) for part, it in fees.items()}, {"ABC": 100, "PNY": 1}, 999, 9, 1)
+    for name, fees in (("tied", TIED_FEES), ("eight", EIGHT_FEES))
+}
 
 
 def is_lawful(order, rows, given):
@@ -159,20 +154,12 @@ def drawn_orders(chance, kind, base):
         }
 
 
-def record_of(chance, order):
+def drawn_record(chance, order):
     """The record of an order: its names in any order, one of them twice here and there."""
     names = list(order["self_help"])
     if names and chance.random() < 0.2:
         names.append(chance.choice(names))
-    return record(order, names)
-
-
-def record(order, names):
-    """The record of an order, with its names as they are given."""
-    head = f"O,0,{order['side']},{order['sym']},{order['shares']},{dollars(order['limit'])}"
-    if names:
-        return f"{head},{'M' if order['manual'] else ''},{'+'.join(names)}"
-    return f"{head},M" if order["manual"] else head
+    return record_of(order, names)
 
 
 def drawn_kind(chance, is_tied):
@@ -205,7 +192,7 @@ def drawn_steps(seed):
                 steps.append(("refused", f"O,0,B,ABC,100,10.00,{flag},{chance.choice(NO_NAMES)}", "L3"))
             if chance.random() < 0.02:
                 steps.append(("refused", "O,0,B,ABC,100,10.00,X,N", "L5"))
-            steps.append(("order", order, record_of(chance, order)))
+            steps.append(("order", order, drawn_record(chance, order)))
     return kind, steps
 
 
@@ -220,7 +207,7 @@ def small_steps(number):
         for side, shares, manual, names in itertools.product("BS", (100, 300, 600), (False, True), ([], ["P"])):
             order = {"side": side, "shares": shares, "limit": 10_001 if side == "B" else 9_999, "manual": manual}
             order.update(kind, self_help=names)
-            steps.append(("order", order, record(order, names)))
+            steps.append(("order", order, record_of(order, names)))
     return kind, steps
 
 
@@ -239,7 +226,7 @@ def eight_steps(seed):
         names = [it for it in EIGHT_FEES if chance.random() < 0.25] if chance.random() < 0.5 else []
         order = {"side": chance.choice("BS"), "shares": chance.randrange(1, 25) * lot, "limit": base + chance.randrange(5)}
         order.update(kind, manual=chance.random() < 0.5, self_help=names)
-        steps.append(("order", order, record_of(chance, order)))
+        steps.append(("order", order, drawn_record(chance, order)))
     return kind, steps
 
 
@@ -249,9 +236,9 @@ def scripted(kind, steps):
     board, script, due, version = {}, [], [], 0
     for what, *words in steps:
         if what == "quote":
-            part, letter, bid, offer = words
-            board[part] = letter, bid, offer
-            script += [f"Q,{part},{kind['sym']},{letter},{dollars(bid[0])},{bid[1]},{dollars(offer[0])},{offer[1]}", "F"]
+            part, letter, *sides = words
+            board[part] = letter, *sides
+            script += [record_of_sides(part, kind["sym"], letter, *sides), "F"]
             version += 1
             due.append(f"PUB,{version}")
         elif what == "refused":
@@ -261,16 +248,6 @@ def scripted(kind, steps):
             script.append(words[1])
             due.append((words[0], shown(board, words[0]), version))
     return "".join(it + "\n" for it in script), due
-
-
-def shown(board, order):
-    """What the participants display on the side that an order trades with: whole lots, and nothing of a halted one."""
-    at, rows = 2 if order["side"] == "B" else 1, []
-    for part in order["fees"]:
-        if part in board and board[part][0] != "H":
-            price, shares = board[part][at]
-            rows.append((part, price, shares - shares % order["lot"], board[part][0] == "A"))
-    return [row for row in rows if row[2]]
 
 
 def judge(words, wrong_of, kind, steps):

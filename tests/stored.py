@@ -43,7 +43,7 @@ class Call:
             for name, text in self.files.items():
                 os.makedirs(os.path.dirname(os.path.join(room, name)), exist_ok=True)
                 with open(os.path.join(room, name), "wb") as file:
-                    # A number means that many bytes 0, which take no room on the disk.
+                    # A number n means n bytes 0, which take no room on the disk.
                     file.truncate(text) if isinstance(text, int) else file.write(text)
             given, answers, errors = (os.path.join(room, f".{it}") for it in ("given", "answers", "errors"))
             with open(given, "wb") as file:

@@ -13,10 +13,9 @@ import subprocess
 import sys
 import tempfile
 
+from drawn import clock
 
-def clock(second, nano):
-    """A time of day as 15 digits."""
-    return f"{second // 3600:02}{second // 60 % 60:02}{second % 60:02}{nano:09}"
+SECOND = 10**9
 
 
 def made(dice, lines):
@@ -27,7 +26,7 @@ def made(dice, lines):
     parts = [0, *cuts, lines]
     times = []
     for first, last in zip(parts, parts[1:]):
-        times.append(sorted(clock(34200 + dice.randrange(seconds), dice.randrange(nanos)) for _ in range(last - first)))
+        times.append(sorted(clock((34200 + dice.randrange(seconds)) * SECOND + dice.randrange(nanos)) for _ in range(last - first)))
     return times
 
 
@@ -39,7 +38,7 @@ def asked(dice, times):
         text = f"{number:015}"
         if int(text[2:4]) < 60 and int(text[4:6]) < 60:
             return text
-    text = clock(dice.randrange(86400), dice.randrange(10 ** 9))
+    text = clock(dice.randrange(86400) * SECOND + dice.randrange(SECOND))
     return text[:dice.choice([6, 9, 15])]
 
 

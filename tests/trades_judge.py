@@ -20,6 +20,7 @@ import tempfile
 
 import judge_lots
 import rules
+from drawn import clock, quotation
 
 PARTS, SYMS = list(judge_lots.PARTS), ["ABC", "PNY"]
 OPENING = {"ABC": 100, "PNY": 100}
@@ -33,25 +34,17 @@ CAUSES = ["SELFHELP-CLAIMED", "NOTREGULAR-CLAIMED", "AUCTION-CLAIMED", "CROSSED"
 DAY, SECOND = 86_400 * 10**9, 10**9
 
 
-def clock(nanos):
-    """Nanoseconds since midnight as 15 digits."""
-    seconds = nanos // SECOND
-    return f"{seconds // 3600:02}{seconds // 60 % 60:02}{seconds % 60:02}{nanos % SECOND:09}"
-
-
 def drawn_change(chance):
     """A change as a line, and as the plain program has it."""
     part, sym, letter = chance.choice(PARTS), chance.choice(["ABC", "ABC", "PNY"]), chance.choice("AAAAMH")
     kind = chance.choices("QSXR", [40, 4, 2, 4])[0]
     if kind == "Q":
-        (bid, says_bid), (offer, says_offer) = judge_lots.drawn_side(chance), judge_lots.drawn_side(chance)
-        return f"Q,{part},{sym},{letter},{bid},{offer}", ("Q", part, sym, letter, {"BID": says_bid, "OFFER": says_offer})
-    if kind == "S":
-        return f"S,{part},{sym},{letter}", ("S", part, sym, letter)
-    if kind == "X":
-        return f"X,{part}", ("X", part)
-    lot = chance.choice([1, 10, 40, 100])
-    return f"R,{sym},{lot}", ("R", sym, lot)
+        return quotation(chance, judge_lots.drawn_side, part, sym, letter)
+    if kind == "R":
+        lot = chance.choice([1, 10, 40, 100])
+        return f"R,{sym},{lot}", ("R", sym, lot)
+    record, (_, change) = rules.plain_records(part, sym, letter, 0)[kind]
+    return record, change
 
 
 def fine(millionths):

@@ -2,7 +2,7 @@
 
 use crate::board::{Row, View};
 use crate::sweep::{usable_rows, Usable};
-use crate::types::*;
+use crate::values::*;
 
 /// Whether a plan is lawful for its order: none of the breaches holds.
 fn is_lawful(view: View, order: &Order, fees: &FeeBook, plan: &Plan) -> bool {

@@ -3,6 +3,7 @@
 use std::mem::MaybeUninit;
 use std::ops::{Deref, DerefMut};
 
+#[derive(Clone)]
 pub struct List<T: Copy, const N: usize> {
     len: u32,
     items: [MaybeUninit<T>; N],
@@ -33,11 +34,11 @@ impl<T: Copy, const N: usize> List<T, N> {
         self.len -= 1;
     }
 
-    pub fn retain(&mut self, mut stays: impl FnMut(&T) -> bool) {
+    pub fn retain(&mut self, mut stays: impl FnMut(&mut T) -> bool) {
         let mut kept = 0;
         for at in 0..self.len as usize {
-            let item = self[at];
-            if stays(&item) {
+            let mut item = self[at];
+            if stays(&mut item) {
                 self.items[kept].write(item);
                 kept += 1;
             }

@@ -4,19 +4,27 @@
 //!     latency_peer calls OPERATIONS      prints a line for each call, and a sum of all answers
 //!     latency_peer serve OPERATIONS      answers a script on standard input; of OPERATIONS it takes the setup
 
-mod board;
 mod check;
 mod list;
 mod numbers;
 mod serve;
+
+// The board, the planner and the values are those of the other program in ordinary Rust, which needs more of them.
+#[allow(dead_code)]
+#[path = "../../tool_peer/src/board.rs"]
+mod board;
+#[allow(dead_code)]
+#[path = "../../tool_peer/src/sweep.rs"]
 mod sweep;
-mod types;
+#[allow(dead_code)]
+#[path = "../../tool_peer/src/values.rs"]
+mod values;
 
 use std::hint::black_box;
 
 use board::Boards;
 use numbers::{BestNumbers, ChangeNumbers, Open, OrderNumbers, PlanNumbers, RowNumbers};
-use types::*;
+use values::*;
 
 /// What a load asks for, one after another.
 pub enum Operation {
@@ -29,15 +37,14 @@ pub enum Operation {
 pub struct Load {
     pub parts: Vec<String>,
     pub syms: Vec<String>,
-    pub lots: Vec<u32>,
+    pub lots: Vec<u16>,
     pub fees: FeeBook,
     pub operations: Vec<Operation>,
 }
 
 fn read_load(path: &str) -> Load {
     let text = std::fs::read_to_string(path).expect("operations");
-    let fees = FeeBook([Fee::default(); MAX_PARTS]);
-    let mut load = Load { parts: vec![], syms: vec![], lots: vec![], fees, operations: vec![] };
+    let mut load = Load { parts: vec![], syms: vec![], lots: vec![], fees: FeeBook::default(), operations: vec![] };
     for line in text.lines() {
         let (kind, rest) = line.split_once(' ').expect("a kind");
         if kind == "p" || kind == "s" {
@@ -48,7 +55,7 @@ fn read_load(path: &str) -> Load {
                 load.fees.0[load.parts.len()] = Fee { fee: numbers[0], rate: numbers[1] };
                 load.parts.push(name);
             } else {
-                load.lots.push(numbers[0] as u32);
+                load.lots.push(numbers[0] as u16);
                 load.syms.push(name);
             }
             continue;
@@ -152,7 +159,7 @@ fn calls(load: &Load) {
     let clock = clock[clock.len() / 2];
     println!("clock {clock}");
 
-    let open = || Open { boards: Boards::new(load.parts.len(), &load.lots), fees: FeeBook(load.fees.0), parts: load.parts.len(), syms: load.syms.len() };
+    let open = || Open { boards: Boards::new(load.parts.len(), load.lots.iter().copied()), fees: load.fees.clone(), parts: load.parts.len(), syms: load.syms.len() };
     let from = now();
     let mut desk = open();
     println!("open {}", now() - from);

@@ -4,9 +4,9 @@
 
 use std::num::NonZeroU32;
 
-use crate::board::{market, Boards, Row};
-use crate::sweep::plan;
-use crate::types::*;
+use crate::board::{market, Boards, Row, View};
+use crate::sweep::plan_into;
+use crate::values::*;
 
 const MOST_PRICE: u64 = 99_999_999_999;
 const MOST_SHARES: u32 = 999_999_999;
@@ -102,6 +102,30 @@ pub struct PlanNumbers {
 }
 
 impl PlanNumbers {
+    /// Plans an order: each cut and each leg goes to its place at once.
+    fn take(&mut self, view: View, order: &Order, fees: &FeeBook) {
+        let (mut legs, mut cuts) = (0, 0);
+        let put_cut = |Cut { price, kind }| {
+            let (kind, marginal) = match kind {
+                CutKind::TooMuch => (0, 0),
+                CutKind::TooLittle => (1, 0),
+                CutKind::Marginal(marginal) => (2, marginal as i64),
+            };
+            self.cut[cuts] = CutNumbers { price, marginal, kind, spare: 0 };
+            cuts += 1;
+        };
+        let put_leg = |Leg { part, price, shares }| {
+            self.leg[legs] = LegNumbers { price, shares, part, spare: [0; 3] };
+            legs += 1;
+        };
+        let (filled, cost) = plan_into(view, order, fees, put_cut, put_leg);
+        self.leg[legs..].fill(LegNumbers::default());
+        self.cut[cuts..].fill(CutNumbers::default());
+        self.version = view.version;
+        (self.cost_low, self.cost_high) = (cost as u64, (cost >> 64) as i64);
+        (self.filled, self.legs, self.cuts, self.spare) = (filled, legs as u32, cuts as u32, 0);
+    }
+
     /// The plan as the checker takes it.
     pub fn read(&self, order: &Order) -> (Plan, Certificate) {
         let leg = |it: &LegNumbers| Leg { part: it.part, price: it.price, shares: it.shares };
@@ -185,7 +209,7 @@ impl Open {
     #[inline(never)]
     pub fn apply(&mut self, n: &ChangeNumbers) -> Result<(), Refused> {
         let change = self.change_of(n)?;
-        if self.boards.applied() >= MOST_CHANGES {
+        if u64::from(self.boards.applied) >= MOST_CHANGES {
             return Err(Refused::Full);
         }
         self.boards.apply(&change);
@@ -207,7 +231,7 @@ impl Open {
     #[inline(never)]
     pub fn plan(&self, n: &OrderNumbers, out: &mut PlanNumbers) -> Result<(), Refused> {
         let order = self.order_of(n)?;
-        plan(self.boards.view(order.sym), &order, &self.fees, out);
+        out.take(self.boards.view(order.sym), &order, &self.fees);
         Ok(())
     }
 }

@@ -4,10 +4,9 @@ use std::fmt::Write as _;
 use std::io::{self, BufRead, Write};
 use std::num::NonZeroU32;
 
-use crate::board::{market, Boards, Market};
-use crate::numbers::PlanNumbers;
+use crate::board::{market, Boards};
 use crate::sweep;
-use crate::types::*;
+use crate::values::*;
 use crate::Load;
 
 /// A price field of at most four decimals.
@@ -34,8 +33,7 @@ fn dollars(price: Price) -> String {
 pub fn serve(load: &Load) {
     let parts: std::collections::HashMap<&str, u8> = load.parts.iter().enumerate().map(|(at, name)| (name.as_str(), at as u8)).collect();
     let syms: std::collections::HashMap<&str, u16> = load.syms.iter().enumerate().map(|(at, name)| (name.as_str(), at as u16)).collect();
-    let mut boards = Boards::new(load.parts.len(), &load.lots);
-    let mut room = PlanNumbers::default();
+    let mut boards = Boards::new(load.parts.len(), load.lots.iter().copied());
     let (mut queue, mut taken) = (Vec::new(), 0u64);
     let (mut input, mut line, mut answer) = (io::stdin().lock(), String::new(), String::new());
     let mut out = io::stdout().lock();
@@ -61,13 +59,7 @@ pub fn serve(load: &Load) {
             }
             "N" => {
                 let view = boards.view(syms[fields[2]]);
-                let word = match market(view.book) {
-                    Market::Empty => "EMPTY",
-                    Market::OneSided => "ONESIDED",
-                    Market::Normal => "NORMAL",
-                    Market::Locked => "LOCKED",
-                    Market::Crossed => "CROSSED",
-                };
+                let word = market(view.book).word();
                 write!(answer, "BEST,{},{},{},{word}", fields[1], fields[2], view.version).expect("room");
                 for side in Side::BOTH {
                     match view.book.best(side) {
@@ -86,8 +78,7 @@ pub fn serve(load: &Load) {
                     manual: fields.get(6) == Some(&"M"),
                     self_help: PartSet::default(),
                 };
-                sweep::plan(boards.view(order.sym), &order, &load.fees, &mut room);
-                let (plan, certificate) = room.read(&order);
+                let (plan, certificate) = sweep::plan(boards.view(order.sym), &order, &load.fees);
                 let flag = if order.manual { "M" } else { "" };
                 let (limit, cost) = (dollars(order.limit), money(plan.cost));
                 writeln!(answer, "PLAN,{},{},{},{},{limit},{flag},{},{cost}", plan.version, fields[2], fields[3], order.shares, plan.filled).expect("room");

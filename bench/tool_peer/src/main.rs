@@ -3,6 +3,7 @@
 mod audit;
 mod board;
 mod lines;
+mod list;
 mod live;
 mod nbbo;
 mod plan_text;
@@ -13,6 +14,7 @@ mod sweep;
 mod text;
 mod toml11;
 mod types;
+mod values;
 mod versions;
 
 use std::fs;
@@ -245,7 +247,7 @@ fn read_orders(setup: &Setup, text: &[u8]) -> Result<Vec<DeskOrder>, Fault> {
 }
 
 fn board_of(setup: &Setup, changes: &[Change]) -> Boards {
-    let mut boards = Boards::new(&setup.roster);
+    let mut boards = setup.roster.board();
     for change in changes {
         boards.apply(change);
     }

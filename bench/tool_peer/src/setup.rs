@@ -7,30 +7,6 @@ use crate::types::*;
 
 pub const SETUP_K: &str = include_str!("../../../examples/builtin.toml");
 
-/// Fee per share in nanodollars from 1.0000 up, and rate in hundred-thousandths
-/// of the price below.
-#[derive(Clone, Copy, Default)]
-struct Fee {
-    fee: i64,
-    rate: i64,
-}
-
-#[derive(Default)]
-pub struct FeeBook([Fee; MAX_PARTS]);
-
-impl FeeBook {
-    /// Nanodollars per share.
-    pub fn unit_cost(&self, part: Part, side: OrderSide, price: Price) -> i64 {
-        let Fee { fee, rate } = self.0[part as usize];
-        let price = price as i64;
-        let fee = if price >= 10_000 { fee } else { price * rate };
-        match side {
-            OrderSide::Buy => price * 100_000 + fee,
-            OrderSide::Sell => -price * 100_000 + fee,
-        }
-    }
-}
-
 pub struct Setup {
     pub roster: Roster,
     pub fees: FeeBook,

@@ -1,4 +1,5 @@
-//! Prices are whole 1/10,000 dollars, money is whole nanodollars, sizes are shares; names are numbers.
+//! The values that every module uses, and those of bench/latency_peer. Prices are
+//! whole 1/10,000 dollars, money is whole nanodollars, sizes are shares.
 
 use std::num::NonZeroU32;
 
@@ -11,7 +12,14 @@ pub type Sym = u16;
 pub type Price = u64;
 pub type Money = i128;
 
-#[derive(Clone, Copy, PartialEq, Eq)]
+#[derive(Clone, Copy, PartialEq, Eq, Debug)]
+pub struct Feed(pub u8);
+
+impl Feed {
+    pub const A: Feed = Feed(0);
+}
+
+#[derive(Clone, Copy, PartialEq, Eq, Debug)]
 pub enum Side {
     Bid = 0,
     Offer = 1,
@@ -29,7 +37,7 @@ impl Side {
     }
 }
 
-#[derive(Clone, Copy, PartialEq, Eq)]
+#[derive(Clone, Copy, PartialEq, Eq, Debug)]
 pub enum OrderSide {
     Buy,
     Sell,
@@ -45,20 +53,20 @@ impl OrderSide {
     }
 }
 
-#[derive(Clone, Copy, PartialEq, Eq)]
+#[derive(Clone, Copy, PartialEq, Eq, Debug)]
 pub enum QState {
     Automated,
     Manual,
     Halted,
 }
 
-#[derive(Clone, Copy, PartialEq, Eq)]
+#[derive(Clone, Copy, PartialEq, Eq, Debug)]
 pub struct SideQuote {
     pub price: Price,
     pub shares: NonZeroU32,
 }
 
-#[derive(Clone, Copy, PartialEq, Eq)]
+#[derive(Clone, Copy, PartialEq, Eq, Debug)]
 pub enum Change {
     Quote { part: Part, sym: Sym, state: QState, sides: [Option<SideQuote>; 2] },
     State { part: Part, sym: Sym, state: QState },
@@ -67,16 +75,22 @@ pub enum Change {
 }
 
 /// A set of participant places.
-#[derive(Clone, Copy, PartialEq, Eq, Default)]
+#[derive(Clone, Copy, PartialEq, Eq, Debug, Default)]
 pub struct PartSet(pub u32);
 
 impl PartSet {
+    pub fn insert(&mut self, part: Part) {
+        self.0 |= 1 << part;
+    }
     pub fn has(self, part: Part) -> bool {
         self.0 >> part & 1 == 1
     }
+    pub fn iter(self) -> impl Iterator<Item = Part> {
+        (0..MAX_PARTS as Part).filter(move |&p| self.has(p))
+    }
 }
 
-#[derive(Clone, Copy, PartialEq, Eq)]
+#[derive(Clone, Copy, PartialEq, Eq, Debug)]
 pub struct Order {
     pub side: OrderSide,
     pub sym: Sym,
@@ -86,21 +100,21 @@ pub struct Order {
     pub self_help: PartSet,
 }
 
-#[derive(Clone, Copy)]
+#[derive(Clone, Copy, PartialEq, Eq, Debug)]
 pub struct Leg {
     pub part: Part,
     pub price: Price,
     pub shares: u32,
 }
 
-#[derive(Clone, Copy)]
+#[derive(Clone, Copy, PartialEq, Eq, Debug)]
 pub enum CutKind {
     TooMuch,
     TooLittle,
     Marginal(Money),
 }
 
-#[derive(Clone, Copy)]
+#[derive(Clone, Copy, PartialEq, Eq, Debug)]
 pub struct Cut {
     pub price: Price,
     pub kind: CutKind,
@@ -108,6 +122,7 @@ pub struct Cut {
 
 pub type Certificate = List<Cut, MAX_PARTS>;
 
+#[derive(Clone)]
 pub struct Plan {
     pub version: u64,
     pub order: Order,
@@ -116,13 +131,15 @@ pub struct Plan {
     pub cost: Money,
 }
 
-/// Fee per share in nanodollars from 1.0000 up, and rate in hundred-thousandths of the price below.
+/// Fee per share in nanodollars from 1.0000 up, and rate in hundred-thousandths
+/// of the price below.
 #[derive(Clone, Copy, Default)]
 pub struct Fee {
     pub fee: i64,
     pub rate: i64,
 }
 
+#[derive(Clone, Default)]
 pub struct FeeBook(pub [Fee; MAX_PARTS]);
 
 impl FeeBook {
