@@ -56,7 +56,7 @@ def files_of():
     """Every file of the repository, but what is built."""
     found = set()
     for folder, below, names in os.walk(TOP):
-        below[:] = [it for it in below if it not in (".git", "out", "target")]
+        below[:] = [it for it in below if it not in (".git", "out", "target", "__pycache__")]
         found.update(os.path.relpath(os.path.join(folder, it), TOP) for it in names)
     return found
 
