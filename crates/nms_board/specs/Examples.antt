@@ -25,7 +25,7 @@ p = 1
 abbrev pub abc : ℕ
 abc = 0
 
--- that many shares at a price in 1/10,000 dollar
+-- a number of shares at a price in 1/10,000 dollar
 abbrev pub at : ℕ → ℕ → Option Content
 at price shares = Some (record { price = price; shares = shares })
 

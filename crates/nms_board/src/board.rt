@@ -171,8 +171,8 @@ impl Boards {
         self.cells[place_of(part, sym)].row(side, part, lot)
     }
 
-    /// The row at a place of a side's rank order in a symbol, from 0 on: the row above which exactly that many of the
-    /// symbol's rows on the side rank. `None` if and only if the place is their number or more.
+    /// The row at place `at` of a side's rank order in a symbol, from 0 on: the row above which exactly `at` of the symbol's
+    /// rows on the side rank. `None` if and only if `at` is their number or more.
     #[inline(always)]
     pub fn ranked(&self, side: Side, sym: Sym, at: u8) -> Option<Row>
         requires { sym < length self.now.sizes.lots }

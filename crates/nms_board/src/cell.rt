@@ -250,7 +250,7 @@ impl Cell {
     }
 }
 
-/// The cells of that many symbols, `MOST_ROWS` each, of participants that never quoted.
+/// The cells of `syms` symbols, `MOST_ROWS` each, of participants that never quoted.
 pub(crate) fn empty_cells(alloc: Global, syms: usize) -> Result<Vec<Cell>, AllocError>
     requires { syms ≤ MOST_SYMBOLS }
     ensures { IfOk result (λ cells. cells.items ≡ replicate (MOST_ROWS * syms) empty_cell) }

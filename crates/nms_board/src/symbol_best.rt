@@ -136,7 +136,7 @@ fn find_row(side: Side, lot: Lot, place: u8, cells: &[Cell]) -> Option<Row>
     cell.row(side, Part::new(place)?, lot)
 }
 
-/// The best rows of that many symbols with no rows.
+/// The best rows of `syms` symbols with no rows.
 pub(crate) fn empty_bests(alloc: Global, syms: usize) -> Result<Vec<SymbolBest>, AllocError>
     requires { syms ≤ MOST_SYMBOLS }
     ensures symbols { IfOk result (λ bests. length bests.items ≡ syms) }

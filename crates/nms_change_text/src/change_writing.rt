@@ -7,7 +7,7 @@ use nms_lines::{name_of_part, name_of_sym, number_before, price_before, text_bef
 use nms_quote::{Change, QState, Roster, SideQuote};
 use std::alloc::AllocError;
 
-/// Appends the records of changes, in order. After an error a first part of them may be there.
+/// Appends the records of changes, in order. After an error a prefix of them may be there.
 pub fn append_changes(
     out: &mut Vec<u8>,
     roster: &Roster,

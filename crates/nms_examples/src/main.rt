@@ -1,7 +1,7 @@
 //! Runs the examples that come on standard input. It writes what each gives, or whether it gives what it says that it must; if
 //! one does not, the program fails at its end. It also runs the benchmark loads: the lines before the first setup, each of which
-//! it writes with its result. The gate compares what it writes with `stdout`, byte for byte. `tests/README.md` has the form of
-//! the input, and `tests/bundle.sh` makes it.
+//! it writes with its result. `tests/README.md` has the form of the input. The gate compares what it writes on `stdin` with
+//! `stdout`, byte for byte, and `tests/check.py` gives it each other case.
 #![tactic(auto)]
 
 mod breaches;

@@ -18,8 +18,8 @@ use nms_quote::Feed;
 use std::alloc::Global;
 use std::sync::Arc;
 
-/// Opens a lane that holds up to that many changes at once, 2 to 1,024, for that many senders, 1 to 8: a sender for
-/// each of the first feeds, in order, and the taker. Nothing after it takes memory. `NoMemory` leaves nothing.
+/// Opens a lane that holds up to `capacity` changes at once, 2 to 1,024, for 1 to 8 senders: one for each of the first
+/// feeds, in order, and the taker. Nothing after it takes memory. `NoMemory` leaves nothing.
 pub fn open_lane(
     alloc: Global,
     capacity: usize,

@@ -53,7 +53,7 @@ caps_fault document = option_map_or year_fault (get_member (codes "caps") docume
 abbrev pub caps_in : Members → Caps
 caps_in document = unwrap_or (option_and_then caps_of (option_and_then as_integer (get_member (codes "caps") document))) caps.Of2005
 
--- that many feeds, if that many are allowed
+-- a number of feeds, if it is allowed
 abbrev pub feeds_of : ℤ → Option ℕ
 feeds_of number = if int_le (pos 1) number && int_le number (pos MOST_FEEDS) then Some (unsigned_abs number) else None
 
@@ -98,7 +98,7 @@ letter_of feed.H = codes "H"
 abbrev pub feed_named : Name → Option Feed
 feed_named text = find (λ feed. bytes_eq text (letter_of feed)) feeds
 
--- whether a text names one of that many first feeds
+-- whether a text names one of the first `count` feeds
 abbrev pub is_feed : ℕ → Name → Bool
 is_feed count text = option_map_or (λ feed. nat_lt (place_of feed) count) (feed_named text) false
 

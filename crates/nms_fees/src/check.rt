@@ -106,7 +106,7 @@ pub fn cap_fault(value: &Value, most: u32, cap: u32) -> Option<SetupFault>
     }
 }
 
-/// The fault of a required feed, one of that many first ones.
+/// The fault of a required feed, one of the first `count` feeds.
 fn letter_fault(table: &Table, key: &str, count: u8) -> Option<SetupFault>
     ensures { result ≡ key_fault (feed_fault count) key.now (table_view table.now) }
 {

@@ -24,7 +24,7 @@ pub fn feed_named(text: &str) -> Option<Feed>
     }
 }
 
-/// The fault of a text that must be the letter of one of that many first feeds.
+/// The fault of a text that must be the letter of one of the first `count` feeds.
 pub fn feed_fault(value: &Value, count: u8) -> Option<SetupFault>
     ensures { result ≡ feed_fault count (view value.now) }
 {
@@ -38,7 +38,7 @@ pub fn feed_fault(value: &Value, count: u8) -> Option<SetupFault>
     }
 }
 
-/// Whether a text names one of that many first feeds.
+/// Whether a text names one of the first `count` feeds.
 fn is_feed(count: u8, text: &str) -> bool
     ensures { result ≡ is_feed count text.now }
 {

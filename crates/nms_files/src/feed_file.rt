@@ -7,7 +7,7 @@ use std::alloc::Global;
 use std::io;
 use std::io::{ErrorKind, Read};
 
-/// All that a source has left, if that is at most that many bytes. No more than one byte beyond is read.
+/// All that a source has left, if that is at most `most` bytes. No more than one byte beyond is read.
 pub fn read_within<R: Read + Drop>(
     alloc: Global,
     source: R,

@@ -41,7 +41,7 @@ no_legs roster left fields more head is one (inr many) =
 
 -- ---- legs
 
--- that many legs were read, and these records are left of all
+-- these legs were read, and these records are left of all
 abbrev pub LegsRead : Listing → List Record → List Leg → List Record → Type 0
 LegsRead roster all legs left = (legs_of roster all ≡ legs ++ legs_of roster left) × (behind_legs roster all ≡ behind_legs roster left)
 
@@ -84,7 +84,7 @@ legs_over roster all left legs was full = too_many (legs_of roster all) (rw was.
 
 -- ---- cuts
 
--- that many cuts were read, and these records are left of all
+-- these cuts were read, and these records are left of all
 abbrev pub CutsRead : List Record → List Cut → List Record → Type 0
 CutsRead all cuts left = cuts_in all ≡ option_map (λ more. cuts ++ more) (cuts_in left)
 

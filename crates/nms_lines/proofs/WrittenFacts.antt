@@ -7,7 +7,7 @@ use Rattle.std.specs.Io.KnownBytes.{Appends, Keeps, append_known}
 use Rattle.csv.proofs.WriteFacts.{appends-more}
 use Rattle.nms_lines.specs.Written.{AppendsPart}
 
--- a first part, and what comes after it
+-- a prefix, and what comes after it
 take_add : (n m : ℕ) (text : List ℕ) → take (n + m) text ≡ take n text ++ take m (drop n text)
 take_add n m text =
     sym (take-append-drop n (take (n + m) text))
@@ -39,7 +39,7 @@ keeps_written (Some x) None new text written keeps = absurd written
 keeps_written (Some x) (Some y) None text written keeps = absurd keeps
 keeps_written (Some x) (Some y) (Some z) text written keeps = keeps ∙ written
 
--- a first part of it was written
+-- a prefix of it was written
 pub part_written : (old new : Option (List ℕ)) (text : List ℕ) (done : ℕ) → Appends old new (take done text) → AppendsPart old new text
 part_written old new text done written =
     record { part = take done text; rest = drop done text; split = sym (take-append-drop done text); written = written }
@@ -61,7 +61,7 @@ pub whole_kept : (old now new : Option (List ℕ)) (text : List ℕ) → Appends
 whole_kept old now new text written keeps =
     record { part = text; rest = []; split = sym (append-nil text); written = keeps_written old now new text written keeps }
 
--- a text, and a first part of the next
+-- a text, and a prefix of the next
 pub part_more : (old now new : Option (List ℕ)) (text next : List ℕ) → Appends old now text → AppendsPart now new next
     → AppendsPart old new (text ++ next)
 part_more old now new text next written more = record {

@@ -28,7 +28,7 @@ abbrev pub check : Bool → Option (Unit {0})
 check true = Some tt
 check false = None
 
--- a record of that word and of that many fields
+-- a record of that word and of `count` fields
 abbrev pub is_record : List ℕ → ℕ → Record → Bool
 is_record word count fields = (length fields == count) && is_text word (field fields 0)
 

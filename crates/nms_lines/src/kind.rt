@@ -75,7 +75,7 @@ fn is_change_kind(kind: Kind) -> bool
     }
 }
 
-/// Whether a record of the kind has that many fields.
+/// Whether a record of the kind has `fields` fields.
 pub(crate) fn is_count(kind: Kind, fields: usize) -> bool
     ensures { result ≡ is_count kind fields }
 {

@@ -130,7 +130,7 @@ pub(crate) fn is_end(row: &ByteRecord) -> bool
     is_record(row, b"END", 1)
 }
 
-/// Whether the row is a record of that word and of that many fields.
+/// Whether the row is a record of that word and of `count` fields.
 fn is_record(row: &ByteRecord, word: &[u8], count: usize) -> bool
     ensures { result ≡ is_record word.now count (fields_of row.now) }
 {

@@ -23,7 +23,7 @@ use std::io::Write;
 /// Writes a plan and its certificate as text: a record of the plan, one for each leg, one for each cut, and an
 /// end; prices with four decimals, money with nine.
 ///
-/// `NoMemory` if memory ran out: nothing was written. `WriteFault` if the writer failed: a first part of the text was
+/// `NoMemory` if memory ran out: nothing was written. `WriteFault` if the writer failed: a prefix of the text was
 /// written, and nothing else. The writer is not flushed.
 pub fn write_plan<W: Write>(
     alloc: Global,

@@ -8,7 +8,7 @@ use std::io::{Error, ErrorKind, Result, Write};
 
 /// Gives a writer a text, in as many writes as it needs. An interrupted write is repeated.
 ///
-/// If the writer fails, a first part of the text was written, and nothing else. The writer is not flushed.
+/// If the writer fails, a prefix of the text was written, and nothing else. The writer is not flushed.
 pub fn write_text<W: Write>(writer: &mut W, text: &[u8]) -> Result<()>
     ensures written { OnOk result (Appends (W.contents writer.old) (W.contents writer.new) text.now) }
     ensures part { OnErr result (AppendsPart (W.contents writer.old) (W.contents writer.new) text.now) }

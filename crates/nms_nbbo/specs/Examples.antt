@@ -22,7 +22,7 @@ z = 3
 abbrev pub manual : ℕ → ℕ → ℕ → ℕ → Row
 manual part price size receipt = record (row part price size receipt) { protected = false }
 
--- what is seen after that many changes
+-- what is seen after `version` changes
 abbrev pub seen : ℕ → List Row → List Row → Seen
 seen version bids offers = record { version = version; sym = 0; bids = bids; offers = offers }
 

@@ -29,7 +29,7 @@ abc = 0
 abbrev pub board_of : Tape → Board
 board_of tape = fold after (opening three) tape
 
--- that many shares at a price in 1/10,000 dollar
+-- a number of shares at a price in 1/10,000 dollar
 abbrev pub at : ℕ → ℕ → Option Content
 at price shares = Some (record { price = price; shares = shares })
 

@@ -1,4 +1,4 @@
--- The text that a call adds to its writer's: a text of one kind, or at a failure a first part of such a text. This
+-- The text that a call adds to its writer's: a text of one kind, or at a failure a prefix of such a text. This
 -- product's own rule.
 use Rattle.std.specs.Prelude.{ℕ, List, Option, Result, MatchResult}
 use Rattle.std.specs.Io.KnownBytes.{Appends}
@@ -10,7 +10,7 @@ pub record Adds (IsKind : List ℕ → Type 0) (old new : Option (List ℕ)) : T
   pub kind : IsKind text
   pub written : Appends old new text
 
--- a first part of a text of that kind was added, which may be none or all of it
+-- a prefix of a text of that kind was added, which may be none or all of it
 pub record AddsPart (IsKind : List ℕ → Type 0) (old new : Option (List ℕ)) : Type 0 where
   pub text : List ℕ
   pub kind : IsKind text

@@ -32,7 +32,7 @@ impl Model for Lot {
 }
 
 impl Lot {
-    /// A lot of that many shares, or `None` if that is not 1 to `MOST_LOT`.
+    /// A lot of `shares`, or `None` if that is not 1 to `MOST_LOT`.
     pub fn new(shares: u16) -> Option<Self>
         ensures { SomeIff result ((1 ≤ shares) × (shares ≤ MOST_LOT)) shares }
     {

@@ -23,7 +23,7 @@ impl Model for Money {
 }
 
 impl Money {
-    /// That many nanodollars.
+    /// An amount of `nanodollars`.
     pub fn new(nanodollars: i128) -> Self
         ensures { result ≡ nanodollars }
     {

@@ -174,7 +174,7 @@ fn send_beside_looks<R: Threads + Wait + Sync>(
     )
 }
 
-/// Takes that many changes and appends them. Publishes if the lane is empty, and at the end.
+/// Takes a number of changes and appends them. Publishes if the lane is empty, and at the end.
 fn publish_all<R: Wait>(rt: &R, publisher: &mut Publisher, mut taker: Taker, changes: u64) -> Taker
     ensures opening { publisher.new.opening ≡ publisher.old.opening }
     ensures lane { (result.lane ≡ taker.lane) × (result.senders ≡ taker.senders) }
@@ -206,7 +206,7 @@ fn append(publisher: &mut Publisher, change: Change) -> bool
     publisher.holds(&change) && publisher.append(change).is_ok()
 }
 
-/// Looks that many times. No look shows an older version than one before it.
+/// Looks a number of times. No look shows an older version than one before it.
 fn look_often(mut desk: Desk, sym: Sym, looks: u32) -> Desk
     ensures { result.opening ≡ desk.opening }
 {

@@ -3,7 +3,7 @@ use Rattle.std.proofs.Common.{◌≤◌, length, take}
 use Rattle.std.specs.Io.KnownBytes.{Appends}
 use Rattle.nms_lines.proofs.text_writing.write_text.Given as goal
 
--- that many bytes of the text were written
+-- `done` bytes of the text were written
 abbrev pub invariant-loop : goal.invariant-loop
 invariant-loop g l = record {
   within : l.done ≤ length l.fn.text;
