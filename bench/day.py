@@ -1,5 +1,5 @@
 #!/usr/bin/env python3
-"""Makes a day for a picture: a file of changes under the built-in setup.
+"""Makes a day for a page: a file of changes under the built-in setup.
 
     day.py CHANGES FILE [SEED]
 

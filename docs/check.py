@@ -19,8 +19,12 @@ import claims
 import draw_crates
 
 TOP = os.path.dirname(os.path.dirname(os.path.realpath(__file__)))
-sys.path.insert(0, f"{TOP}/tests")
+sys.path[:0] = [f"{TOP}/tests", f"{TOP}/page"]
 import edits
+import join
+
+# The page's own text as a constant.
+PAGE_TEXT = "crates/nms_drawing/src/page_text.rt"
 
 # Lines and words of the front page, and words of a sentence there.
 MOST_LINES, MOST_FRONT, MOST_WORDS = 130, 1600, 25
@@ -30,9 +34,6 @@ MOST_COLUMNS = 148
 LIMITS = (("MOST_RECORDS", "records of a script"), ("MOST_CHANGES", "changes of a tape"), ("MOST_SYMBOLS", "symbols"),
           ("MOST_PARTICIPANTS", "participants"), ("MOST_FEEDS", "feeds"), ("MOST_DESKS", "desks"), ("MOST_QUEUE", "changes in the queue"),
           ("MOST_EXECUTIONS", "executions"))
-# The picture in README.md is what the program draws in this case.
-DRAWINGS = "tests/review/drawing.cases"
-DAY = "command a day with a locked and two crossed stretches, and a plan where it was made"
 SPAN = re.compile(r"`([^`]+)`")
 # It prints what is checked as a page.
 CLAIMS = "docs/claims.py"
@@ -302,14 +303,8 @@ def check_links():
 
 # What is made of the sources.
 
-def drawn_day():
-    """What `nms_review draw` prints in the case of which docs/day.svg is the picture; the gate runs that case."""
-    case = read(DRAWINGS).split(f"== {DAY}\n")[1]
-    return re.search(r"^-- gives\n\d+\n(.*?)^-- errors$", case, re.M | re.S)[1]
-
-
 def check_made():
-    """The words of ARCHITECTURE.md, what CLAIMS.md shows of docs/claims.py, and both pictures are as the sources have them."""
+    """The words of ARCHITECTURE.md, what CLAIMS.md shows of docs/claims.py, the picture of the crates and the page's text are as the sources have them."""
     page = claims.PAGE
     there, wanted = read(page).split("\n"), claims.made().split("\n")
     differing = next((old for old, new in itertools.zip_longest(there, wanted) if old != new), "")
@@ -321,7 +316,7 @@ def check_made():
         if it.functions and name not in ("nms_examples", "nms_tests"):
             check("`" in claims.printed(name), CLAIMS, f"it prints no claim of `{name}`")
     check(read("docs/crates.svg") == draw_crates.drawn(), "docs/crates.svg", "docs/draw_crates.py draws another picture")
-    check(read("docs/day.svg") == drawn_day(), "docs/day.svg", f"the case `{DAY}` of {DRAWINGS} has another picture")
+    check(read(PAGE_TEXT) == join.source(), PAGE_TEXT, "page/join.py writes another text")
     page = "docs/ARCHITECTURE.md"
     listed = SPAN.findall("\n".join(row[CELLS][0] for row in rows(prose(page)) if "Never knows" in row))
     for name in CRATES:

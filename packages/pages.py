@@ -11,7 +11,7 @@ TOP = os.path.dirname(os.path.dirname(os.path.realpath(__file__)))
 # The pages for users. The others are for those who change the code.
 NAMES = ("CALLING", "CERTIFICATE", "ERRORS", "FORMATS", "HEADLINE", "IMPORT", "INSTALL", "JSON", "REAL_DAY", "REVIEW", "RULES", "SERVING", "TRADES")
 PAGES = ("README.md", "CHANGELOG.md", "examples/README.md", *(f"docs/{it}.md" for it in NAMES))
-PICTURES = ("docs/day.svg",)
+PICTURES = ("docs/page.svg",)
 # A page, what is there, and what an installed page has in its place. What is not there is not replaced: LEFT is the test.
 EDITS = (
     ("README.md", r"(?<=^## Commands\n\n)(?:    .*\n)+\n.*\n",

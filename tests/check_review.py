@@ -10,9 +10,9 @@ page a line of four spaces and `./nms_review WORDS` is a call, or one of `./nms_
 after it is what it writes, with the words `status N` in the text between them if N is not 0. Besides these the program
 meets a closed output, one whose reader has gone, records of a million bytes, records whose fields and lists are longer than
 any that is right, byte order marks before quotes, each byte of a file once, a setup of many symbols, streams of several
-pieces, days with more versions than a picture has columns, a page of as many executions as it shows and of one more, a symbol
-that is cut to four shards, what is written beside a shard, lines of all ends, a trade after a refused row, imports to one name that fail or have fewer shards, a script of one record too many, the imports of examples/import/, and the random files that the judges
-JUDGES compare with a plain slow program.
+pieces, a symbol that is cut to four shards, what is written beside a shard, lines of all ends, a trade after a refused row,
+imports to one name that fail or have fewer shards, a script of one record too many, the imports of examples/import/, and the
+random files and pages that the judges JUDGES compare with a plain slow program.
 """
 import gzip
 import os
@@ -32,7 +32,7 @@ ROOM = os.path.join(EXAMPLES, "review")
 PAGES = ("docs/REVIEW.md", "docs/TRADES.md")
 IMPORTS = ("taq", "databento-mbp1", "lobster", "taq-trades")
 CLOSED = ("2>&-", "1>&-", "1>&- 2>&-", "0<&-", "0<&- 1>&- 2>&-")
-JUDGES = ("import_judge.py", "times_judge.py", "trades_judge.py", "day_judge.py")
+JUDGES = ("import_judge.py", "times_judge.py", "trades_judge.py", "pages_judge.py", "day_judge.py")
 # Memory within which a file of two hundred million bytes is explained: it must not grow with the file, but with the longest
 # record alone.
 LITTLE = 256 << 20
@@ -317,70 +317,6 @@ def pieces(program, path):
         must((ran.returncode, came, ran.stderr) == (0, text, b""), f"{words}: {ran.returncode}, {len(came)} lines, line {differs + 1}: {came[differs:differs + 1]}")
 
 
-def narrow(file):
-    """3,000 changes, so that a column of the picture has three versions: one from 300 on is locked, locked, crossed; one from
-    600 on locked once; one from 900 on locked, crossed; one from 1200 on crossed, locked, crossed."""
-    marked = {300: 1, 302: 2, 303: 0, 601: 1, 602: 0, 900: 1, 901: 2, 902: 0, 1200: 2, 1201: 1, 1202: 2, 1203: 0}
-    moves = (b"X,Z\n", b"Q,Z,ABC,A,10.01,100,,\n", b"Q,Z,ABC,A,10.02,100,,\n")
-    file.write(b"Q,N,ABC,A,9.99,100,10.01,100\n" + b"".join(moves[marked[it]] if it in marked else b"X,P\n" for it in range(2, 3_001)))
-
-
-def columns(program, path):
-    """A version takes 1500 of 3003 units across: the columns with crossed versions are hatched in one strip, those with locked
-    ones in another, so that one with both is in both. All are less than three units wide, and made that."""
-    ran = called(program, ["draw", path, "ABC", *long_day(path)], capture_output=True)
-    text = ran.stdout.decode()
-    hatched = re.findall(r'^<rect y="(\d+)" height="(\d+)" x="(\d+)" width="(\d+)" fill="url\(#(\w+)\)"/>$', text, re.M)
-    wanted = [("651", "24", it, "3", "crossed") for it in ("299", "599", "749")]
-    wanted += [("681", "24", it, "3", "locked") for it in ("299", "449", "599", "749")]
-    must((ran.returncode, hatched) == (0, wanted), f"{ran.returncode}, {hatched}, {ran.stderr!r}")
-    told = text[text.index("Versions that are"):text.index("</desc>")].splitlines()
-    stretches = [("Locked", 300, 301), ("Crossed", 302, 302), ("Locked", 601, 601), ("Locked", 900, 900), ("Crossed", 901, 901), ("Crossed", 1200, 1200)]
-    stretches += [("Locked", 1201, 1201), ("Crossed", 1202, 1202)]
-    wanted = ["Versions that are locked: 5; crossed: 4; all: 3001.", *(f"{kind} from version {first} to {last}." for kind, first, last in stretches)]
-    must(told[:9] == wanted and told[9].startswith("A column stands for 3 versions: "), f"{told}")
-
-
-def no_change(file):
-    """A file that each call here replaces."""
-
-
-def flagged(program, path):
-    """A page shows 1,000 executions that traded through, and of 1,001 the first 1,000 with how many more there are."""
-    room = os.path.dirname(path)
-    with open(path, "wb") as file:
-        file.write(b"Q,N,ABC,A,9.99,100,10.01,100\n" * 3)
-    for count, more in ((1_000, b""), (1_001, b"in the answers alone: 1.\n")):
-        with open(os.path.join(room, "given.executions"), "wb") as file:
-            file.write(b"".join(b"D,e%d,ABC,10.02,100,B,%d,N,\n" % (it, it % 3 + 1) for it in range(count)))
-        ran = called(program, ["trades", "given.changes", "given.executions", "--html", "page.html"], capture_output=True, cwd=room)
-        page = read(room, "page.html")
-        names = re.findall(rb"<h3>\n(\w+)\n</h3>", page)
-        must((ran.returncode, names) == (0, [b"e%d" % it for it in range(1_000)]), f"{ran.returncode}, {len(names)} names, {ran.stderr!r}")
-        must(page.count(b"<svg ") == page.count(b"</svg>") == 1_000, f"{page.count(b'<svg ')} pictures")
-        must(ran.stdout.count(b"THROUGH,") == count, "not as many answers")
-        must((b"in the answers alone" in page) == bool(more) and more in page, "what is left out is not said")
-
-
-def told_apart(program, path):
-    """A page says of an execution that it traded through on some versions of its window, and of a row that it flickered."""
-    room = os.path.dirname(path)
-    files = {
-        "given.changes": b"Q,P,ABC,A,9.98,500,10.02,200\nQ,N,ABC,A,9.97,300,10.02,400\nQ,P,ABC,A,9.98,500,10.00,200\n",
-        "given.times": b"093000000000000\n093000400000000\n093000500000000\n",
-        "given.executions": b"D,some,ABC,10.01,100,B,@0930004995,,\nD,all,ABC,10.01,100,B,@0930006,,\n",
-    }
-    for name, text in files.items():
-        with open(os.path.join(room, name), "wb") as file:
-            file.write(text)
-    words = ["trades", "given.changes", "given.executions", "--times", "given.times", "--window", "1000000", "--html", "page.html"]
-    ran = called(program, words, capture_output=True, cwd=room)
-    sections = dict(re.findall(rb"<h3>\n(\w+)\n</h3>([\s\S]*?)</section>", read(room, "page.html")))
-    must((ran.returncode, sorted(sections)) == (0, [b"all", b"some"]), f"{ran.returncode}, {sorted(sections)}, {ran.stderr!r}")
-    must(b" PERHAPS: " in sections[b"some"] and b"PERHAPS" not in sections[b"all"], "PERHAPS is not told apart")
-    must(b"FLICKER\n</td>" in sections[b"all"] and b"FLICKER\n</td>" not in sections[b"some"], "FLICKER is not told apart")
-
-
 MAP = b"""[column]
 time = 1
 participant = 2
@@ -537,22 +473,6 @@ def shard_of(program, path):
     must((ran.returncode, ran.stderr) == (0, told), f"{ran.returncode}, {ran.stderr!r}")
 
 
-def vanishing(file):
-    """3,002 changes, so that a column of the picture has three versions: in the last one of each there is no bid, in the others there is one."""
-    moves = (b"Q,N,ABC,A,9.99,100,10.01,100\n", b"X,P\n", b"Q,N,ABC,A,,,10.01,100\n")
-    file.write(moves[0] + b"".join(moves[it % 3] for it in range(2, 3_003)))
-
-
-def gaps(program, path):
-    """A bid that ends in a column is drawn to the column's end, and the next one begins again: 1,001 times, after the move to the corner."""
-    ran = called(program, ["draw", path, "ABC", *long_day(path)], capture_output=True)
-    text = ran.stdout.decode()
-    wanted = "Best bids from 9.9900 to 9.9900 dollars, at the end with none."
-    must(ran.returncode == 0 and wanted in text, f"{ran.returncode}, {re.findall('Best bids.*', text)}, {ran.stderr!r}")
-    begun = sorted(it.count("M") for it in re.findall(r'<path [^>]*d="([^"]*)"', text))
-    must(begun[-2:] == [1_002, 1_002], f"lines begin {begun[-2:]} times")
-
-
 def editor_lines(program, path):
     """The lines of rows that are refused, with each kind of line end, in files of several pieces with blank lines and line ends in quotes."""
     draw = random.Random(7)
@@ -579,10 +499,9 @@ def editor_lines(program, path):
 TRIALS = [
     ("closed", refused), ("reader_gone", refused), ("long", long_records), ("far_name", long_names), ("far_fields", long_fields),
     ("mark", marked), ("mark_in_parts", nothing), ("harmless", each_byte), ("small_memory", large), ("no_memory", larger),
-    ("one_found", among), ("one_too_many", too_many), ("name_found", many_symbols), ("most_faults", other_keys), ("pieces", each_other), ("columns", narrow),
-    ("flagged", no_change), ("told_apart", nothing), ("cut_often", nothing),
+    ("one_found", among), ("one_too_many", too_many), ("name_found", many_symbols), ("most_faults", other_keys), ("pieces", each_other), ("cut_often", nothing),
     ("withdrawn", nothing), ("lots_of_the_setup", nothing), ("out_of_one_import", nothing), ("inputs_named_as_shards", nothing),
-    ("shard_of", nothing), ("gaps", vanishing), ("editor_lines", nothing),
+    ("shard_of", nothing), ("editor_lines", nothing),
 ]
 
 

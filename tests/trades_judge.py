@@ -7,9 +7,9 @@ EXECUTIONS is 20,000 if it is not given. The plain program looks back over all c
 rules.py has, and compares prices in 1/1,000,000 dollar; with times it does so at each version of a window, and of the second
 before. Two files of three have times, with ties; half of those are sorted by symbol, and half of these are a shard that has a
 symbol for a part of the day. In one file of four a symbol is quoted late, or never. One record in ten is refused, in each
-way that a record can be. The lines, the same as JSON, and the table as JSON must be those of the plain program. It prints the
-seed, and at a difference the first execution that differs with the changes up to its version. The last line is
-`N passed, M failed`; status 1 at a difference.
+way that a record can be. The lines, the same as JSON with the best quotations, and the table as JSON must be those of the plain
+program. It prints the seed, and at a difference the first execution that differs with the changes up to its version. The last
+line is `N passed, M failed`; status 1 at a difference.
 """
 import json
 import os
@@ -81,14 +81,15 @@ BAD = [  # the place of the field, its text, the column and the code
 UNTIMED = [(6, "@093000", 7, "X12"), (6, "@093000000000000", 7, "X12"), (6, "@235959.", 7, "X8")]
 
 
-def sides_at(tape, seen, sym, version):
-    """The protected quotations of a version, by rank."""
+def looked(tape, seen, sym, version):
+    """The quotations of a version by rank: the protected ones of each side, and what an object says of the best of all."""
     if (version, sym) not in seen:
-        sides = []
+        sides, best = [], {}
         for side, sign in (("BID", -1), ("OFFER", 1)):
-            found = [it for it in rules.rows(tape[:version], sym, side, OPENING) if it[4] == "A"]
-            sides.append((side, sign, sorted(found, key=lambda it: (sign * it[0], -it[1], it[2]))))
-        seen[version, sym] = sides
+            found = sorted(rules.rows(tape[:version], sym, side, OPENING), key=lambda it: (sign * it[0], -it[1], it[2]))
+            sides.append((side, sign, [it for it in found if it[4] == "A"]))
+            best[side.lower()], best[f"{side.lower()}_shares"] = (rules.dollars(found[0][0]), found[0][1]) if found else (None, None)
+        seen[version, sym] = sides, best
     return seen[version, sym]
 
 
@@ -222,7 +223,8 @@ def add(to, standing, rows, causes, whole=True):
 
 
 def day(chance, first):
-    """A file of changes, one of executions, the lines and the table that must come; and of each answer its record."""
+    """A file of changes, one of executions, the lines and the table that must come; of each answer its record, and the best quotations of
+    its version."""
     pairs = [drawn_change(chance) for _ in range(CHANGES)]
     late = chance.choice([None, None, None, ("ABC", 100), ("PNY", CHANGES)])
     if late:
@@ -231,7 +233,7 @@ def day(chance, first):
     if times:
         pairs = times.sorted(pairs)
         times.draw(chance, pairs)
-    tape, seen, records, answers = [it[1] for it in pairs], {}, [], []
+    tape, seen, records, answers, bests = [it[1] for it in pairs], {}, [], [], {}
     tables = {"cause": {}, "executed": {}, "passed": {}, "symbol": {}, "half_hour": {}}
     total, aside = count(), {"refused": 0, "other": 0}
     for number in range(EACH):
@@ -275,7 +277,8 @@ def day(chance, first):
             aside["other"] += 1
             answers.append([f"OTHER,{name}"])
             continue
-        standing, rows, causes = judged(lambda n: sides_at(tape, seen, sym, n), tape, sym, when, millionths, shares, part, words, named)
+        standing, rows, causes = judged(lambda n: looked(tape, seen, sym, n)[0], tape, sym, when, millionths, shares, part, words, named)
+        bests[number + 1] = looked(tape, seen, sym, version)[1]
         if nanos is not None:
             half_hour = nanos // (1800 * SECOND)
             add(tables["half_hour"].setdefault(f"{half_hour // 2:02}:{half_hour % 2 * 3}0", count()), standing, rows, causes)
@@ -294,7 +297,7 @@ def day(chance, first):
         answers.append([head] + [
             f"ROW,{side},{who},{rules.dollars(at)},{size},{receipt},{fine(by)},{'+'.join(['OWN'] * (who == part) + ['FLICKER'] * flickers)}"
             for side, who, at, size, receipt, by, _, flickers in rows])
-    return pairs, times, records, answers, table_of(total, aside, tables)
+    return pairs, times, records, answers, bests, table_of(total, aside, tables)
 
 
 def table_of(total, aside, tables):
@@ -324,8 +327,8 @@ def own_of(number, record):
             "participant": part or None, "time": f"{when[1:]:0<15}" if when[0] == "@" else None}
 
 
-def objects_of(records, answers):
-    """The same answers as JSON."""
+def objects_of(records, answers, bests):
+    """The same answers as JSON, with the best quotations of each execution's version."""
     for number, (record, lines) in enumerate(zip(records, answers), 1):
         head = lines[0].split(",")
         if head[0] == "REFUSED":
@@ -333,10 +336,10 @@ def objects_of(records, answers):
         elif head[0] == "OTHER":
             yield {"what": "other", "id": head[1], "record": number}
         elif head[0] in ("CLEAN", "NOQUOTE"):
-            yield {"what": head[0].lower(), "id": head[1], "version": int(head[2]), **own_of(number, record)}
+            yield {"what": head[0].lower(), "id": head[1], "version": int(head[2]), **own_of(number, record), **bests[number]}
         else:
             yield {"what": head[0].lower(), "id": head[1], "version": int(head[2]), "count": int(head[3]), "worst": head[4],
-                   "shares": int(head[5]), "cause": head[6], **own_of(number, record)}
+                   "shares": int(head[5]), "cause": head[6], **own_of(number, record), **bests[number]}
         for line in lines[1:]:
             _, side, who, price, size, receipt, by, own = line.split(",")
             yield {"what": "row", "id": head[1], "side": side, "participant": who, "price": price, "shares": int(size),
@@ -352,7 +355,7 @@ def ran(program, folder, status, *options):
 
 def difference(program, folder, made):
     """What is wrong of one day, or nothing."""
-    pairs, times, records, answers, table = made
+    pairs, times, records, answers, bests, table = made
     files, options = [("c", [it[0] for it in pairs]), ("e", records)], []
     if times:
         files.append(("t", [clock(it) for it in times.all]))
@@ -379,8 +382,9 @@ def difference(program, folder, made):
                 return "\n".join([*shown, " ".join(options), record, "came:", *came[at:at + 5], "wanted:", *lines])
             at += len(lines)
         return "more lines came: " + " ".join(came[at:at + 3])
-    if [json.loads(it) for it in ran(program, folder, status, "--json", *options)] != list(objects_of(records, answers)):
-        return "the objects differ"
+    came, wanted = [json.loads(it) for it in ran(program, folder, status, "--json", *options)], list(objects_of(records, answers, bests))
+    if came != wanted:
+        return "\n".join(["the objects differ", *(f"{it}\n{own}" for it, own in zip(came, wanted) if it != own)])
     came = [json.loads(it) for it in ran(program, folder, status, "--table", "--json", *options)]
     if came != table:
         return "\n".join(["the table differs", *(f"{it}\n{own}" for it, own in zip(came, table) if it != own)])

@@ -77,9 +77,10 @@ def jobs():
     return int(os.environ.get("NMS_JOBS") or os.cpu_count())
 
 
-def run(part, trials, processes=False, alone=False):
+def run(part, trials, processes=False, alone=False, may_lack=False):
     """Runs the trials of a part of the gate, several at once if they don't run `alone`, and gives the status. Trials that
-    compute take `processes`; their functions and words have to be known by name."""
+    compute take `processes`; their functions and words have to be known by name. With CI=true a trial that lacks something has
+    failed, unless trials `may_lack` it."""
     only = os.environ.get("NMS_ONLY")
     trials = list(trials)
     if only:
@@ -95,7 +96,7 @@ def run(part, trials, processes=False, alone=False):
             outcomes = list(pool.map(outcome, trials))
     passed, failed, skipped = 0, 0, 0
     for trial, (points, found, lacks) in zip(trials, outcomes):
-        if lacks and os.environ.get("CI") == "true":
+        if lacks and not may_lack and os.environ.get("CI") == "true":
             found = [Wrong(lacks)]
         elif lacks:
             print(f"skipped: {trial.name}: {lacks}")

@@ -1,3 +1,9 @@
 pub mod DayFacts
-mod SceneFacts
 mod VersionFacts
+mod PartLemmas
+mod RowLemmas
+mod SpellingLemmas
+mod TextLemmas
+mod TradeLemmas
+mod DayLemmas
+mod DrawnFacts

@@ -8,6 +8,14 @@ pub mod Faults
 pub mod Versions
 pub mod Streamed
 pub mod Days
-pub mod Scenes
 pub mod PageFaults
 pub mod Pages
+pub mod Spelling
+pub mod Texts
+pub mod Data
+pub mod PageData
+pub mod Rows
+pub mod Trades
+pub mod Plans
+pub mod Page
+pub mod Drawn

@@ -1,11 +1,10 @@
-//! A day's executions for people: on the day's picture, and as one page of those that traded through.
-mod escaped;
+//! A day's executions: on the page of a day, and on a page of their own.
 mod judged;
-mod on_picture;
-mod page;
+mod on_page;
 mod page_fault;
-mod parts;
+mod trades_page;
 
-pub use on_picture::draw_executions;
-pub use page::{Named, write_page};
+pub(crate) use judged::Judged;
+pub use on_page::draw_executions;
 pub use page_fault::PageFault;
+pub use trades_page::{Asked, write_page};

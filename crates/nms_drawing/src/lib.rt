@@ -1,35 +1,32 @@
-//! The changes of a day for people: at a version, as its opening changes, as a stream, as a picture; and its executions, on the
-//! picture and as a page.
+//! The changes of a day for people: at a version, as its opening changes, as a stream, and as a page; and its executions, on the page
+//! of a day and on a page of their own.
 #![tactic(auto)]
 
-mod axis;
-mod clock;
-mod curve;
-mod day;
+mod boards_lines;
+mod content;
+mod days;
 mod drawing;
 mod drawing_fault;
 mod executions;
-mod hours;
 mod json_lines;
-mod judged;
-mod legs;
-mod marks;
-mod moments;
 mod opened;
+mod page;
+mod page_data;
+mod page_text;
 mod passed_lines;
-mod picture;
-mod scale;
-mod scene;
+mod plans;
+mod report;
+mod rows;
+mod spelling;
 mod streamed;
+mod texts;
+mod trades;
 mod version;
-mod words;
 
-pub use drawing::{Frame, draw_changes, draw_day};
+pub use drawing::{About, Frame, draw_changes};
 pub use drawing_fault::DrawingFault;
-pub use executions::{Named, PageFault, draw_executions, write_page};
-pub use marks::Mark;
-pub use moments::{Scene, scenes_of};
+pub use executions::{Asked, PageFault, draw_executions, write_page};
 pub use opened::write_opening;
-pub use scene::write_scene;
-pub use streamed::stream_changes;
+pub use streamed::{stream_boards, stream_changes};
+pub use texts::no_data_ends_its_element;
 pub use version::show_version;

@@ -1,10 +1,13 @@
 //! The stream of a file in the requested form: `specs/Streamed`.
 ghost use Rattle.std.specs.Prelude.{◌≡◌, ◌<◌, IfErr, IfSome, None, OnOk, false, length, option_copied, true};
 ghost use Rattle.nms_lines.specs.Written.{WritesPart};
+ghost use Rattle.nms_show.specs.Safe.{IsSafe};
+ghost use Rattle.nms_show.specs.Written.{Writes};
 ghost use Rattle.nms_stream.specs.StreamFile.{StreamsFile, is_of_file};
 ghost use Rattle.nms_drawing.specs.Faults.{is_begun, is_of_input};
 ghost use Rattle.nms_drawing.specs.Streamed.{IsStreamedFault, is_plain};
 
+use crate::boards_lines::{Wanted, write_boards};
 use crate::drawing_fault::DrawingFault;
 use crate::passed_lines::PassedLines;
 use nms_fees::Setup;
@@ -95,6 +98,41 @@ fn stream_lines<R: Read + Drop, W: Write>(
     match stream(alloc, setup.roster(), &changes, sym, &mut lines) {
         Ok(()) => Ok(Ending::Done),
         Err(fault) => Err(passed_on(fault, lines.wants_memory())),
+    }
+}
+
+/// Streams each participant's quotations as JSON objects: after each change, those that it may alter. With times each object has
+/// that of its version, last.
+///
+/// `Changes` and `Times` leave nothing written. It is not flushed.
+pub fn stream_boards<R: Read + Drop, W: Write>(
+    alloc: Global,
+    setup: &Setup,
+    source: R,
+    times: Option<&Times>,
+    sym: Option<Sym>,
+    answers: &mut W,
+) -> Result<Ending, DrawingFault>
+    ensures safe { Writes IsSafe (W.contents answers.old) (W.contents answers.new) result }
+    ensures refused { IfErr result (IsStreamedFault setup.now (R.remaining source) (option_copied times.entry)) }
+    ensures unwritten { IfErr result (λ fault. is_of_input fault ≡ true → W.contents answers.new ≡ W.contents answers.old) }
+{
+    let changes = match read_changes(alloc, setup, source) {
+        Ok(changes) => changes,
+        Err(fault) => return Err(DrawingFault::Changes(fault)),
+    };
+    if let Some(times) = times {
+        times.check_len(changes.len())?;
+    }
+    let wanted = Wanted {
+        alloc,
+        roster: setup.roster(),
+        times,
+        sym,
+    };
+    match write_boards(&wanted, &changes, answers) {
+        Ok(()) => Ok(Ending::Done),
+        Err(fault) => Err(fault),
     }
 }
 

@@ -23,8 +23,8 @@ use nms_times::Times;
 use std::alloc::Global;
 use std::io::{Read, Write};
 
-/// Writes the state at a version, after that many first changes of a file: of one symbol the report, or of all symbols a table
-/// of their best bids and offers. As JSON, an object for each row and pair, or for each symbol.
+/// Writes the state at version n, after the first n changes of a file: of one symbol the report, or of all symbols a table of
+/// their best bids and offers. As JSON, an object for each row and pair, or for each symbol.
 ///
 /// If the file has fewer changes, it is `VersionBeyondTape`; if times are given, and not as many, `Times`. Then nothing is
 /// written. It is not flushed.

@@ -1,99 +1,139 @@
-//! What the words of a request name: a form, a symbol, a version, a feed; and how the reading of a file ended.
-ghost use Rattle.std.specs.Prelude.{◌<◌, length, IfSome};
+//! A call that is served, and what every subcommand does with it: it opens and reads files, and looks up what words name.
+ghost use Rattle.std.specs.Prelude.{◌≡◌, ◌<◌, ◌≤◌, All, IfOk, IfSome, length, true};
+ghost use Rattle.nms_quote.specs.Roster.{holds, sizes_of};
+ghost use Rattle.nms_quote.specs.declared.TheConstants.{MOST_CHANGES};
 
 use crate::fault::{About, Fault};
-use crate::files::word_at;
+use crate::request::{Path, Symbol};
 use crate::screen::Screen;
 use crate::source::Source;
-use crate::words::Request;
+use crate::words::Words;
 use nms_codes::Code;
 use nms_fees::{Setup, feed_named};
-use nms_quote::{Feed, Sym};
-use nms_show::{Ending, Form};
+use nms_files::read_changes;
+use nms_quote::{Change, Feed, Sym};
+use nms_show::Form;
+use nms_times::{Times, read_times};
+use std::alloc::Global;
+use std::fs;
+use std::rt::Files;
 use std::time::Clock;
 
-/// The form that a request asks for.
-pub(crate) fn form_of(screen: Screen, request: &Request<'_>) -> Form {
-    if request.json {
-        Form::Json
-    } else {
-        Form::Text {
-            colours: screen.answers,
+/// What a call is served with.
+pub(crate) trait Host: AllocGlobal + Clock + Eprint + Files {}
+
+impl<T: AllocGlobal + Clock + Eprint + Files> Host for T {}
+
+/// A call that is served.
+#[derive(Drop)]
+pub(crate) struct Call<'a, T> {
+    pub(crate) rt: &'a T,
+    pub(crate) screen: Screen,
+    pub(crate) words: &'a Words<'a>,
+    /// The setup that the words name, or the built-in one.
+    pub(crate) setup: &'a Setup,
+}
+
+impl<'a, T: Host> Call<'a, T> {
+    /// The allocator.
+    pub(crate) fn alloc(&self) -> Global {
+        self.rt.alloc()
+    }
+
+    /// The form of the answers.
+    pub(crate) fn form(&self) -> Form {
+        if self.words.has("json") {
+            Form::Json
+        } else {
+            Form::Text {
+                colours: self.screen.answers,
+            }
         }
     }
-}
 
-/// The symbol that a word names, if there is one and the setup has it.
-pub(crate) fn sym_at(setup: &Setup, request: &Request<'_>, place: usize) -> Option<Sym>
-    ensures { IfSome result (λ sym. sym < length setup.now.roster.syms) }
-{
-    setup.roster().find_sym(word_at(request, place).as_bytes())
-}
-
-/// Whether a word stands there.
-pub(crate) fn has_word(request: &Request<'_>, place: usize) -> bool {
-    request.words.len() > place
-}
-
-/// A word that names no symbol.
-pub(crate) fn no_sym(place: usize) -> Fault {
-    Fault::usage(
-        About::Word(place),
-        "it is no symbol of the setup; capitals count",
-    )
-}
-
-/// The version that the first word names.
-pub(crate) fn version_of(request: &Request<'_>) -> Result<u64, Fault> {
-    version_in(word_at(request, 0), About::Word(0))
-}
-
-/// The version that a word names, in digits only: `parse` would accept a plus before them too.
-pub(crate) fn version_in(word: &str, about: About) -> Result<u64, Fault> {
-    let version = if word.bytes().all(|byte| byte.is_ascii_digit()) {
-        word.parse::<u64>().ok()
-    } else {
-        None
-    };
-    version.ok_or(Fault::usage(about, "a version is a number, 0 or more"))
-}
-
-/// The feed that `--feed` names, A if it is not given.
-pub(crate) fn feed_of(setup: &Setup, request: &Request<'_>) -> Result<Feed, Fault> {
-    let feed = letter_of(request)?;
-    if feed.place() < setup.feeds() {
-        Ok(feed)
-    } else {
-        Err(no_feed())
+    /// The bytes of a file.
+    pub(crate) fn read(&self, file: Path<'_>) -> Result<Vec<u8>, Fault> {
+        fs::read(self.rt, file.name).map_err(|error| Fault::unread(error, file.about))
     }
-}
 
-/// The feed that `--feed` names, A if it is not given, among the most that a setup may have.
-fn letter_of(request: &Request<'_>) -> Result<Feed, Fault> {
-    feed_named(request.feed.unwrap_or("A")).ok_or(no_feed())
-}
-
-/// A word that names no feed.
-fn no_feed() -> Fault {
-    Fault::usage(About::Feed, "it is the letter of no feed of the setup")
-}
-
-/// How a request that has read a file ends: if the reading failed, the system's reason is reported.
-pub(crate) fn ended<T: Clock + Eprint, R>(
-    source: &mut Source<'_, T, R>,
-    served: Result<Ending, Fault>,
-) -> Result<Ending, Fault> {
-    source.clear();
-    match served {
-        Ok(ending) => Ok(ending),
-        Err(fault) => Err(reason_of(source, fault)),
+    /// The bytes of a file, if one is named.
+    pub(crate) fn read_given(&self, file: Option<Path<'_>>) -> Result<Option<Vec<u8>>, Fault> {
+        match file {
+            Some(file) => Ok(Some(self.read(file)?)),
+            None => Ok(None),
+        }
     }
-}
 
-/// A fault of a request that has read a file: if the reading failed, the system's reason is reported.
-pub(crate) fn reason_of<T: Clock + Eprint, R>(source: &Source<'_, T, R>, fault: Fault) -> Fault {
-    match source.failed() {
-        Some(error) if fault.code == Code::E1 => Fault::unread(error, fault.about),
-        _ => fault,
+    /// A file that is opened to be read.
+    pub(crate) fn open(&self, file: Path<'_>) -> Result<Source<'a, T, T::File>, Fault> {
+        match fs::open(self.rt, file.name) {
+            Ok(opened) => Ok(Source::new(self.rt, self.screen, opened)),
+            Err(error) => Err(Fault::unread(error, file.about)),
+        }
+    }
+
+    /// The changes of a file.
+    pub(crate) fn read_changes(&self, file: Path<'_>) -> Result<Vec<Change>, Fault>
+        ensures held { IfOk result (λ changes. All (λ change. holds (sizes_of self.now.setup.now.roster) change ≡ true) changes.items) }
+        ensures few { IfOk result (λ changes. length changes.items ≤ MOST_CHANGES) }
+    {
+        let mut source = self.open(file)?;
+        let read = read_changes(self.alloc(), self.setup, &mut source);
+        source.clear();
+        match read {
+            Ok(changes) => Ok(changes),
+            Err(fault) => {
+                let fault = Fault::of(Code::of_changes(fault), file.about);
+                Err(fault.with_reason(source.failed()))
+            }
+        }
+    }
+
+    /// The times of a text, which is that of a file.
+    pub(crate) fn times_in(&self, text: &[u8], about: About) -> Result<Times, Fault> {
+        read_times(self.alloc(), text).map_err(|fault| Fault::of_times(fault, about))
+    }
+
+    /// The times of a file, if one is named.
+    pub(crate) fn read_times(&self, file: Option<Path<'_>>) -> Result<Option<Times>, Fault> {
+        let Some(file) = file else {
+            return Ok(None);
+        };
+        let text = self.read(file)?;
+        Ok(Some(self.times_in(&text, file.about)?))
+    }
+
+    /// The symbol of the setup that a word names.
+    pub(crate) fn sym(&self, symbol: Symbol<'_>) -> Result<Sym, Fault>
+        ensures { IfOk result (λ sym. sym < length self.now.setup.now.roster.syms) }
+    {
+        match self.setup.roster().find_sym(symbol.name.as_bytes()) {
+            Some(sym) => Ok(sym),
+            None => Err(Fault::usage(symbol.about, "it is no symbol of the setup; capitals count")),
+        }
+    }
+
+    /// The symbol of the setup that a word names, if there is one.
+    pub(crate) fn sym_given(&self, symbol: Option<Symbol<'_>>) -> Result<Option<Sym>, Fault>
+        ensures { IfOk result (λ given. IfSome given (λ sym. sym < length self.now.setup.now.roster.syms)) }
+    {
+        let Some(symbol) = symbol else {
+            return Ok(None);
+        };
+        match self.sym(symbol) {
+            Ok(sym) => Ok(Some(sym)),
+            Err(fault) => Err(fault),
+        }
+    }
+
+    /// The feed of the setup that a letter names; A without one.
+    pub(crate) fn feed(&self, letter: Option<&str>) -> Result<Feed, Fault> {
+        match feed_named(letter.unwrap_or("A")) {
+            Some(feed) if feed.place() < self.setup.feeds() => Ok(feed),
+            Some(_) | None => Err(Fault::usage(
+                About::Value("feed"),
+                "it is the letter of no feed of the setup",
+            )),
+        }
     }
 }

@@ -3,410 +3,251 @@ ghost use Rattle.std.specs.Prelude.{◌≤◌};
 ghost use Rattle.nms_shards.specs.declared.TheConstants.{LEAST_LIMIT};
 
 use crate::answers::Answers;
+use crate::call::{Call, Host};
 use crate::fault::{About, Fault, Output};
-use crate::files::word_at;
-use crate::importing::{
-    fault_in, flush, lacks_columns, no_memory, rows_of, show_short, show_told, tell_counts,
-    tell_map_fault,
-};
-use crate::outputs::{SHARD, check_outputs, create, publish_shards, remove_parts};
-use crate::screen::Screen;
-use crate::source::Source;
-use crate::vendor::open_vendor;
-use crate::words::Request;
-use csv::{ByteRecord, Reader};
-use nms_fees::Setup;
-use nms_import::{Columns, ImportFault, MapFault, Mapping, Notes, Order, RowSource, Tally, Told};
+use crate::importing::{Kept, too_long};
+use crate::notices::{refuse_columns, refuse_map, show_kept};
+use crate::outputs::{SHARD, check_outputs, create, flush, publish_shards, remove_parts};
+use crate::request::{Import, Path};
+use crate::vendor::{Rows, fault_in, open_vendor};
+use csv::ByteRecord;
+use nms_import::{Columns, ImportFault, MapFault, Mapping, Order};
 use nms_shards::{
     Cutting, LEAST_LIMIT, Shard, begin_shard, import_shard, write_listed, write_setup,
 };
 use nms_show::{Ending, Form, Item, write_line};
-use std::alloc::Global;
 use std::io::Write;
-use std::rt::Files;
-use std::time::Clock;
 
-/// The place of the first file's word: the mapping stands before it.
-const FILES: usize = 1;
-
-/// The files of the shard being written.
+/// The shard that is being written, and what is kept from one of the vendor's files to the next.
 #[derive(Drop)]
-struct ShardFiles<F> {
+struct Shards<'a, T, F> {
+    call: &'a Call<'a, T>,
+    import: &'a Import<'a>,
+    kept: Kept<'a>,
+    cutting: Cutting,
     changes: Answers<F>,
     times: Answers<F>,
-}
-
-/// The files of the shard being written, and the state kept from one of the vendor's files to the next.
-#[derive(Drop)]
-struct CutJob<'a, F> {
-    files: ShardFiles<F>,
-    notes: Notes,
     row: ByteRecord,
     text: Vec<u8>,
-    told: Told<'a, Vec<u8>>,
-    tally: Tally,
+    /// How many shards were begun.
     shards: u64,
+    /// How many opening changes they have.
     openings: u64,
 }
 
 /// Cuts the rows of the files to shards, and reports the counts.
-pub(crate) fn cut_files<T, W: Write>(
-    rt: &T,
-    screen: Screen,
-    setup: &Setup,
-    request: &Request<'_>,
+pub(crate) fn cut_files<T: Host, W: Write>(
+    call: &Call<'_, T>,
+    import: &Import<'_>,
     mapping: &Mapping,
     answers: &mut W,
-) -> Result<Ending, Fault>
-where
-    T: AllocGlobal + Clock + Eprint + Files,
-{
+) -> Result<Ending, Fault> {
     if mapping.order != Order::Symbol {
-        return refuse_order(rt, request);
+        return refuse_order(call, import);
     }
-    if setup.tape_limit() < LEAST_LIMIT {
-        return Err(Fault::usage(About::Setup, "a setup with a tape_limit of 66 or more"));
+    if call.setup.tape_limit() < LEAST_LIMIT {
+        return Err(Fault::usage(
+            About::Value("setup"),
+            "a setup with a tape_limit of 66 or more",
+        ));
     }
-    cut_sorted(rt, screen, setup, request, mapping, answers)
+    check_outputs(call, import.out, 1, &SHARD)?;
+    let (ended, shards) = match begin(call, import, mapping) {
+        Ok(mut job) => (job.run(answers), job.shards),
+        Err(fault) => (Err(fault), 1),
+    };
+    for before in 0..shards {
+        remove_parts(call, import.out, before + 1, &SHARD);
+    }
+    ended
 }
 
 /// Reports that the mapping's order is not by symbol.
-fn refuse_order<T: AllocGlobal + Eprint>(rt: &T, request: &Request<'_>) -> Result<Ending, Fault> {
-    match String::from_str(rt.alloc(), "order") {
+fn refuse_order<T: Host>(call: &Call<'_, T>, import: &Import<'_>) -> Result<Ending, Fault> {
+    match String::from_str(call.alloc(), "order") {
         Ok(key) => {
             let fault = MapFault::BadValue {
                 table: "time",
                 key,
                 expected: "\"symbol\" with --shards: rows sorted by symbol",
             };
-            tell_map_fault(rt, word_at(request, 0), &fault)
+            refuse_map(call, import.map, &fault)
         }
-        Err(_) => Err(no_memory()),
+        Err(_) => Err(Fault::no_memory()),
     }
-}
-
-/// Cuts the rows of the files, which are sorted by symbol, and reports the counts.
-fn cut_sorted<T, W: Write>(
-    rt: &T,
-    screen: Screen,
-    setup: &Setup,
-    request: &Request<'_>,
-    mapping: &Mapping,
-    answers: &mut W,
-) -> Result<Ending, Fault>
-where
-    T: AllocGlobal + Clock + Eprint + Files,
-    requires room { LEAST_LIMIT ≤ setup.now.tape_limit }
-{
-    match Cutting::new(rt.alloc(), setup) {
-        Ok(mut cutting) => cut_with(rt, screen, setup, request, mapping, &mut cutting, answers),
-        Err(fault) => Err(fault_in(fault, 0)),
-    }
-}
-
-/// Cuts the rows of the files with what was made to cut them, and reports the counts.
-fn cut_with<T, W: Write>(
-    rt: &T,
-    screen: Screen,
-    setup: &Setup,
-    request: &Request<'_>,
-    mapping: &Mapping,
-    cutting: &mut Cutting,
-    answers: &mut W,
-) -> Result<Ending, Fault>
-where
-    T: AllocGlobal + Clock + Eprint + Files,
-{
-    check_outputs(rt, request, 1, &SHARD)?;
-    let (ended, shards) = match begin_job(rt, request, mapping) {
-        Ok(mut job) => {
-            let ended = cut_all(
-                rt, screen, setup, request, mapping, cutting, &mut job, answers,
-            );
-            (ended, job.shards)
-        }
-        Err(fault) => (Err(fault), 1),
-    };
-    for before in 0..shards {
-        remove_parts(rt, request, before + 1, &SHARD);
-    }
-    ended
 }
 
 /// Begins the first shard.
-fn begin_job<'a, T: AllocGlobal + Files>(
-    rt: &T,
-    request: &Request<'a>,
-    mapping: &Mapping,
-) -> Result<CutJob<'a, T::File>, Fault> {
-    let alloc = rt.alloc();
-    let files = create_files(rt, request, 1)?;
-    match Notes::of_symbols(alloc, 1, mapping.order, mapping.file.count) {
-        Ok(notes) => Ok(CutJob {
-            files,
-            notes,
-            row: ByteRecord::new(alloc),
-            text: Vec::new(alloc),
-            told: Told::new(Vec::new(alloc)),
-            tally: Tally::none(),
+fn begin<'a, T: Host>(
+    call: &'a Call<'a, T>,
+    import: &'a Import<'a>,
+    mapping: &'a Mapping,
+) -> Result<Shards<'a, T, T::File>, Fault>
+    requires room { LEAST_LIMIT ≤ call.now.setup.now.tape_limit }
+{
+    let changes = create(call, import.out, of_shard(1, ".changes"))?;
+    let times = create(call, import.out, of_shard(1, ".times"))?;
+    let kept = match Kept::new(call.alloc(), mapping, 1) {
+        Ok(kept) => kept,
+        Err(fault) => return Err(fault),
+    };
+    match Cutting::new(call.alloc(), call.setup) {
+        Ok(cutting) => Ok(Shards {
+            call,
+            import,
+            kept,
+            cutting,
+            changes,
+            times,
+            row: ByteRecord::new(call.alloc()),
+            text: Vec::new(call.alloc()),
             shards: 1,
             openings: 0,
         }),
-        Err(_) => Err(no_memory()),
+        Err(fault) => Err(fault_in(fault, import.map.about)),
     }
 }
 
-/// Makes the files of a shard.
-fn create_files<T: AllocGlobal + Files>(
-    rt: &T,
-    request: &Request<'_>,
-    shard: u64,
-) -> Result<ShardFiles<T::File>, Fault> {
-    let changes = create(rt, request, shard, ".changes")?;
-    match create(rt, request, shard, ".times") {
-        Ok(times) => Ok(ShardFiles { changes, times }),
-        Err(fault) => Err(fault),
+impl<'a, T: Host> Shards<'a, T, T::File> {
+    /// Cuts the rows of all files, and reports the counts.
+    fn run<W: Write>(&mut self, answers: &mut W) -> Result<Ending, Fault> {
+        let (call, import) = (self.call, self.import);
+        for file in &import.files {
+            let mut rows = open_vendor(call, *file, self.kept.mapping.file)?;
+            let taken = self.take_rows(*file, &mut rows);
+            rows.close();
+            show_kept(call, &mut self.kept.told.errors);
+            let ending = taken?;
+            if !matches!(ending, Ending::Done) {
+                return Ok(ending);
+            }
+        }
+        self.finish_shard()?;
+        publish_shards(call, import.out, self.shards)?;
+        write_shards(self.shards, self.openings, answers)?;
+        self.kept.report(call, import, answers)
     }
-}
 
-/// Cuts the rows of all files, and reports the counts.
-fn cut_all<'a, T, W: Write>(
-    rt: &T,
-    screen: Screen,
-    setup: &Setup,
-    request: &Request<'a>,
-    mapping: &Mapping,
-    cutting: &mut Cutting,
-    job: &mut CutJob<'a, T::File>,
-    answers: &mut W,
-) -> Result<Ending, Fault>
-where
-    T: AllocGlobal + Clock + Eprint + Files,
-{
-    for place in FILES..request.words.len() {
-        if !cut_file(rt, screen, setup, request, mapping, place, cutting, job)? {
-            return Ok(Ending::SetupRefused);
+    /// Cuts the rows of a file.
+    fn take_rows(
+        &mut self,
+        file: Path<'a>,
+        rows: &mut Rows<'_, T, T::File>,
+    ) -> Result<Ending, Fault> {
+        let (call, mapping) = (self.call, self.kept.mapping);
+        let columns = match mapping.columns(call.alloc(), &rows.names) {
+            Ok(columns) => columns,
+            Err(fault) => return refuse_columns(call, file, &fault, &rows.names),
+        };
+        let was_short = self.kept.begin_file(file)?;
+        match self.cut_rows(&columns, file, rows) {
+            Ok(()) => self.kept.end_file(call, file, was_short),
+            Err(fault) => Err(fault),
         }
     }
-    finish_shard(rt, setup, request, cutting, job)?;
-    publish_shards(rt, request, job.shards)?;
-    tell_shards(job.shards, job.openings, answers)?;
-    tell_counts(
-        rt,
-        request,
-        &mapping.meanings,
-        &job.tally,
-        &job.notes,
-        answers,
-    )
-}
 
-/// Cuts the rows of one file. Returns whether it has the columns that the mapping names; if not, that is reported.
-fn cut_file<'a, T>(
-    rt: &T,
-    screen: Screen,
-    setup: &Setup,
-    request: &Request<'a>,
-    mapping: &Mapping,
-    place: usize,
-    cutting: &mut Cutting,
-    job: &mut CutJob<'a, T::File>,
-) -> Result<bool, Fault>
-where
-    T: AllocGlobal + Clock + Eprint + Files,
-{
-    let mut reader = open_vendor(rt, screen, request, place, mapping.file, &mut job.row)?;
-    let cut = cut_columns(
-        rt,
-        setup,
-        request,
-        mapping,
-        place,
-        &mut reader,
-        cutting,
-        job,
-    );
-    let mut source = reader.into_inner().into_source();
-    source.clear();
-    show_told(rt, &mut job.told);
-    cut
-}
-
-/// Cuts the rows of a file whose names of columns were read. Returns as `cut_file` does.
-fn cut_columns<'a, T>(
-    rt: &T,
-    setup: &Setup,
-    request: &Request<'a>,
-    mapping: &Mapping,
-    place: usize,
-    reader: &mut Reader<RowSource<Source<'_, T, T::File>>>,
-    cutting: &mut Cutting,
-    job: &mut CutJob<'a, T::File>,
-) -> Result<bool, Fault>
-where
-    T: AllocGlobal + Clock + Eprint + Files,
-{
-    match mapping.columns(rt.alloc(), &job.row) {
-        Ok(columns) => {
-            let file = word_at(request, place);
-            job.told.enter(file);
-            let was_short = job.notes.is_short();
-            job.notes.begin_file(rows_of(&job.tally)?);
-            let cut = cut_rows(
-                rt, setup, request, mapping, &columns, place, reader, cutting, job,
-            )?;
-            job.notes.end_file(rows_of(&job.tally)?);
-            show_short(rt, file, was_short, job.notes.is_short())?;
-            Ok(cut)
+    /// Cuts the rows of a file whose columns were found.
+    fn cut_rows(
+        &mut self,
+        columns: &Columns,
+        file: Path<'_>,
+        rows: &mut Rows<'_, T, T::File>,
+    ) -> Result<(), Fault> {
+        let (call, import, mapping) = (self.call, self.import, self.kept.mapping);
+        for part in 0..u64::MAX {
+            let Kept {
+                notes,
+                told,
+                tally,
+                ..
+            } = &mut self.kept;
+            let stopped = import_shard(
+                columns,
+                &mapping.meanings,
+                call.setup.roster(),
+                import.rows,
+                part > 0,
+                &mut self.cutting,
+                &mut self.row,
+                &mut self.text,
+                &mut rows.reader,
+                &mut self.changes,
+                &mut self.times,
+                notes,
+                told,
+                tally,
+            );
+            match stopped {
+                Ok(Shard::GoesOn) => return Ok(()),
+                Ok(Shard::Full) => self.begin_next()?,
+                Err(fault) => {
+                    return Err(fault_in(fault, file.about).in_output(of_shard(self.shards, "")));
+                }
+            }
         }
-        Err(fault) => lacks_columns(rt, word_at(request, place), &fault, &job.row),
+        Err(fault_in(ImportFault::TooLong, file.about))
+    }
+
+    /// Ends the shard and begins the next one, with its opening changes.
+    fn begin_next(&mut self) -> Result<(), Fault> {
+        self.finish_shard()?;
+        let (call, import) = (self.call, self.import);
+        let shard = sum_of(self.shards, 1)?;
+        check_outputs(call, import.out, shard, &SHARD)?;
+        self.shards = shard;
+        self.changes = create(call, import.out, of_shard(shard, ".changes"))?;
+        self.times = create(call, import.out, of_shard(shard, ".times"))?;
+        let opened = begin_shard(
+            call.setup.roster(),
+            import.rows,
+            &mut self.cutting,
+            &mut self.text,
+            &mut self.changes,
+            &mut self.times,
+        )
+        .map_err(|fault| fault_in(fault, About::Nothing).in_output(of_shard(shard, "")))?;
+        self.openings = sum_of(self.openings, opened)?;
+        Ok(())
+    }
+
+    /// Writes what is left of the shard, its symbols and its setup.
+    fn finish_shard(&mut self) -> Result<(), Fault> {
+        let (call, out, shard) = (self.call, self.import.out, self.shards);
+        flush(&mut self.changes, of_shard(shard, ".changes"))?;
+        flush(&mut self.times, of_shard(shard, ".times"))?;
+        let mut symbols = create(call, out, of_shard(shard, ".symbols"))?;
+        let written = write_listed(&mut symbols, &self.cutting);
+        finish(&mut symbols, of_shard(shard, ".symbols"), written)?;
+        let mut setup = create(call, out, of_shard(shard, ".toml"))?;
+        let written = write_setup(&mut setup, call.setup, &self.cutting);
+        finish(&mut setup, of_shard(shard, ".toml"), written)
     }
 }
 
-/// Cuts the rows that a reader still has, and returns true.
-fn cut_rows<'a, T>(
-    rt: &T,
-    setup: &Setup,
-    request: &Request<'a>,
-    mapping: &Mapping,
-    columns: &Columns,
-    place: usize,
-    reader: &mut Reader<RowSource<Source<'_, T, T::File>>>,
-    cutting: &mut Cutting,
-    job: &mut CutJob<'a, T::File>,
-) -> Result<bool, Fault>
-where
-    T: AllocGlobal + Clock + Eprint + Files,
-{
-    for part in 0..u64::MAX {
-        let stopped = import_shard(
-            columns,
-            &mapping.meanings,
-            setup.roster(),
-            request.rows,
-            part > 0,
-            cutting,
-            &mut job.row,
-            &mut job.text,
-            reader,
-            &mut job.files.changes,
-            &mut job.files.times,
-            &mut job.notes,
-            &mut job.told,
-            &mut job.tally,
-        );
-        match stopped {
-            Ok(Shard::GoesOn) => return Ok(true),
-            Ok(Shard::Full) => next_shard(rt, setup, request, cutting, job)?,
-            Err(fault) => return Err(in_shard(fault_in(fault, place), job.shards, "")),
-        }
-    }
-    Err(fault_in(ImportFault::TooLong, place))
-}
-
-/// Ends the shard and begins the next one.
-fn next_shard<T>(
-    rt: &T,
-    setup: &Setup,
-    request: &Request<'_>,
-    cutting: &mut Cutting,
-    job: &mut CutJob<'_, T::File>,
-) -> Result<(), Fault>
-where
-    T: AllocGlobal + Files,
-{
-    finish_shard(rt, setup, request, cutting, job)?;
-    let shard = sum_of(job.shards, 1)?;
-    check_outputs(rt, request, shard, &SHARD)?;
-    job.shards = shard;
-    job.files = create_files(rt, request, shard)?;
-    open_shard(setup, request, cutting, job)
-}
-
-/// Writes the opening changes of the shard that was begun.
-fn open_shard<F: Write>(
-    setup: &Setup,
-    request: &Request<'_>,
-    cutting: &mut Cutting,
-    job: &mut CutJob<'_, F>,
-) -> Result<(), Fault> {
-    let opened = begin_shard(
-        setup.roster(),
-        request.rows,
-        cutting,
-        &mut job.text,
-        &mut job.files.changes,
-        &mut job.files.times,
-    );
-    match opened {
-        Ok(opened) => {
-            job.openings = sum_of(job.openings, opened)?;
-            Ok(())
-        }
-        Err(fault) => Err(in_shard(fault_in(fault, 0), job.shards, "")),
-    }
-}
-
-/// A fault; E2 is about a file of a shard.
-fn in_shard(fault: Fault, shard: u64, end: &'static str) -> Fault {
-    fault.in_output(Output { shard, end })
+/// A file of a shard.
+fn of_shard(shard: u64, end: &'static str) -> Output {
+    Output { shard, end }
 }
 
 /// The sum of two counts.
 fn sum_of(count: u64, more: u64) -> Result<u64, Fault> {
-    match count.checked_add(more) {
-        Some(count) => Ok(count),
-        None => Err(fault_in(ImportFault::TooLong, FILES)),
-    }
+    count.checked_add(more).ok_or(too_long())
 }
 
-/// Writes what is left of the shard, its symbols and its setup.
-fn finish_shard<T>(
-    rt: &T,
-    setup: &Setup,
-    request: &Request<'_>,
-    cutting: &Cutting,
-    job: &mut CutJob<'_, T::File>,
-) -> Result<(), Fault>
-where
-    T: AllocGlobal + Files,
-{
-    let shard = job.shards;
-    flush(&mut job.files.changes, shard, ".changes")?;
-    flush(&mut job.files.times, shard, ".times")?;
-    let symbols = create(rt, request, shard, ".symbols")?;
-    finish_symbols(symbols, shard, cutting)?;
-    let text = create(rt, request, shard, ".toml")?;
-    finish_setup(text, shard, setup, cutting)
-}
-
-/// Writes the symbols of a shard to its file.
-fn finish_symbols<F: Write + Drop>(
-    mut file: Answers<F>,
-    shard: u64,
-    cutting: &Cutting,
+/// Writes out what is kept back of an output that was written so.
+fn finish<W: Write>(
+    file: &mut W,
+    output: Output,
+    written: Result<(), ImportFault>,
 ) -> Result<(), Fault> {
-    match write_listed(&mut file, cutting) {
-        Ok(()) => flush(&mut file, shard, ".symbols"),
-        Err(fault) => Err(in_shard(fault_in(fault, 0), shard, ".symbols")),
+    match written {
+        Ok(()) => flush(file, output),
+        Err(fault) => Err(fault_in(fault, About::Nothing).in_output(output)),
     }
 }
 
-/// Writes the setup of a shard to its file.
-fn finish_setup<F: Write + Drop>(
-    mut file: Answers<F>,
-    shard: u64,
-    setup: &Setup,
-    cutting: &Cutting,
-) -> Result<(), Fault> {
-    match write_setup(&mut file, setup, cutting) {
-        Ok(()) => flush(&mut file, shard, ".toml"),
-        Err(fault) => Err(in_shard(fault_in(fault, 0), shard, ".toml")),
-    }
-}
-
-/// Reports how many shards there are, and how many opening changes they have in addition to those of the rows.
-fn tell_shards<W: Write>(shards: u64, openings: u64, answers: &mut W) -> Result<(), Fault> {
+/// Writes how many shards there are, and how many opening changes they have in addition to those of the rows.
+fn write_shards<W: Write>(shards: u64, openings: u64, answers: &mut W) -> Result<(), Fault> {
     write_line(
         answers,
         Form::Text { colours: false },

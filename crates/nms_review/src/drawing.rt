@@ -1,173 +1,133 @@
-//! The subcommand `draw`: which versions are drawn, with what, and along which axis.
-use crate::call::{ended, no_sym, sym_at, version_in};
+//! The subcommand `draw`: which versions a page shows, and with what.
+use crate::call::{Call, Host};
 use crate::fault::{About, Fault};
-use crate::files::{read_file, word_at};
-use crate::paging::{both_ended, page_fault};
-use crate::screen::Screen;
-use crate::source::{Source, open_source};
-use crate::timing::{given_times, rising_of};
-use crate::trading::{given_symbols, timing_of};
-use crate::words::Request;
-use nms_drawing::{DrawingFault, Frame, draw_changes, draw_executions};
-use nms_fees::Setup;
+use crate::paging::{made_of, page_fault};
+use crate::request::{Draw, Path, Version};
+use crate::timing::{number_of, span_of};
+use crate::trading::timing_of;
+use nms_drawing::{About as Named, DrawingFault, Frame, draw_changes, draw_executions};
 use nms_quote::Sym;
 use nms_show::Ending;
-use nms_times::{TimeOfDay, Times, find_span};
-use nms_trades::Timing;
-use std::fs;
+use nms_times::{TimeOfDay, Times};
 use std::io::Write;
-use std::rt::Files;
-use std::time::Clock;
 
-/// The place of the symbol's word: the file of changes stands before it.
-const SYMBOL: usize = 1;
-
-/// Draws a symbol's day.
-pub(crate) fn serve_draw<T, W: Write>(
-    rt: &T,
-    screen: Screen,
-    setup: &Setup,
-    request: &Request<'_>,
-    answers: &mut W,
-) -> Result<Ending, Fault>
-where
-    T: AllocGlobal + Clock + Eprint + Files,
-{
-    let Some(sym) = sym_at(setup, request, SYMBOL) else {
-        return Err(no_sym(SYMBOL));
-    };
-    let times = given_times(rt, request)?;
-    draw_timed(rt, screen, setup, request, sym, times.as_ref(), answers)
+/// What a page shows: a symbol at the versions of a frame, and a plan if there is one.
+#[derive(Clone, Copy)]
+struct Picture<'a> {
+    sym: Sym,
+    frame: &'a Frame<'a>,
+    plan: Option<&'a [u8]>,
+    named: &'a Named<'a>,
 }
 
-/// Draws a symbol's day, with the times of its versions if there are any.
-fn draw_timed<T, W: Write>(
-    rt: &T,
-    screen: Screen,
-    setup: &Setup,
-    request: &Request<'_>,
-    sym: Sym,
-    times: Option<&Times>,
+/// Writes the page of a symbol's day, with a plan and with executions if those are given.
+pub(crate) fn serve_draw<T: Host, W: Write>(
+    call: &Call<'_, T>,
+    draw: &Draw<'_>,
     answers: &mut W,
-) -> Result<Ending, Fault>
-where
-    T: AllocGlobal + Clock + Eprint + Files,
-{
-    match frame_of(rt, request, times) {
-        Ok(frame) => draw_planned(rt, screen, setup, request, &frame, sym, answers),
-        Err(fault) => Err(fault),
+) -> Result<Ending, Fault> {
+    let sym = match call.sym(draw.symbol) {
+        Ok(sym) => sym,
+        Err(fault) => return Err(fault),
+    };
+    let times = call.read_times(draw.times)?;
+    let frame = match frame_of(call, draw, times.as_ref()) {
+        Ok(frame) => frame,
+        Err(fault) => return Err(fault),
+    };
+    let plan = call.read_given(draw.plan)?;
+    let plan = plan.as_ref().map(Vec::as_slice);
+    let pairs = made_of(
+        call,
+        &[
+            ("changes", Some(draw.changes)),
+            ("plan", draw.plan),
+            ("executions", draw.trades),
+            ("times", draw.times),
+            ("symbols", draw.within.map(|within| within.symbols)),
+        ],
+    )?;
+    let named = Named {
+        pairs: &pairs,
+        plan: name_of(draw.plan),
+    };
+    let picture = Picture {
+        sym,
+        frame: &frame,
+        plan,
+        named: &named,
+    };
+    match draw.trades {
+        Some(trades) => draw_trades(call, draw, trades, &picture, answers),
+        None => draw_day(call, draw, &picture, answers),
     }
 }
 
-/// Draws the versions of a frame, with a plan if one was given.
-fn draw_planned<T, W: Write>(
-    rt: &T,
-    screen: Screen,
-    setup: &Setup,
-    request: &Request<'_>,
-    frame: &Frame<'_>,
-    sym: Sym,
-    answers: &mut W,
-) -> Result<Ending, Fault>
-where
-    T: AllocGlobal + Clock + Eprint + Files,
-{
-    let Some(path) = request.plan else {
-        return draw_frame(rt, screen, setup, request, frame, sym, None, answers);
-    };
-    let plan = read_file(rt, path, About::Plan)?;
-    draw_frame(rt, screen, setup, request, frame, sym, Some(&plan), answers)
+/// The name of a file; nothing without one.
+fn name_of<'a>(file: Option<Path<'a>>) -> &'a str {
+    match file {
+        Some(file) => file.name,
+        None => "",
+    }
 }
 
-/// Draws the versions of a frame, with a plan and with executions if those were given.
-fn draw_frame<T, W: Write>(
-    rt: &T,
-    screen: Screen,
-    setup: &Setup,
-    request: &Request<'_>,
-    frame: &Frame<'_>,
-    sym: Sym,
-    plan: Option<&[u8]>,
+/// Writes the page of a day without executions.
+fn draw_day<T: Host, W: Write>(
+    call: &Call<'_, T>,
+    draw: &Draw<'_>,
+    picture: &Picture<'_>,
     answers: &mut W,
-) -> Result<Ending, Fault>
-where
-    T: AllocGlobal + Clock + Eprint + Files,
-{
-    let Some(path) = request.trades else {
-        return draw_alone(rt, screen, setup, request, frame, sym, plan, answers);
-    };
-    let symbols = given_symbols(rt, request)?;
-    let symbols = symbols.as_ref().map(Vec::as_slice);
-    let timing = timing_of(frame.times, symbols, false, 0);
-    let timing = timing.as_ref();
-    draw_trades(
-        rt, screen, setup, request, path, frame, sym, plan, timing, answers,
-    )
-}
-
-/// Draws a day without executions.
-fn draw_alone<T, W: Write>(
-    rt: &T,
-    screen: Screen,
-    setup: &Setup,
-    request: &Request<'_>,
-    frame: &Frame<'_>,
-    sym: Sym,
-    plan: Option<&[u8]>,
-    answers: &mut W,
-) -> Result<Ending, Fault>
-where
-    T: AllocGlobal + Clock + Eprint + Files,
-{
-    let mut source = open_source(rt, screen, request, 0)?;
-    let served = draw_changes(rt.alloc(), setup, &mut source, frame, sym, plan, answers).map_err(
-        |fault| drawing_fault(fault, last_of(request), About::Word(0)),
-    );
-    ended(&mut source, served)
-}
-
-/// Draws a day with the executions of a file. Both files are opened before either is read.
-fn draw_trades<T, W: Write>(
-    rt: &T,
-    screen: Screen,
-    setup: &Setup,
-    request: &Request<'_>,
-    path: &str,
-    frame: &Frame<'_>,
-    sym: Sym,
-    plan: Option<&[u8]>,
-    timing: Option<&Timing<'_>>,
-    answers: &mut W,
-) -> Result<Ending, Fault>
-where
-    T: AllocGlobal + Clock + Eprint + Files,
-{
-    let mut changes = open_source(rt, screen, request, 0)?;
-    let mut executions = match fs::open(rt, path) {
-        Ok(file) => Source::new(rt, screen, file),
-        Err(error) => return Err(Fault::unread(error, About::Trades)),
-    };
-    let served = draw_executions(
-        rt.alloc(),
-        setup,
-        &mut changes,
-        &mut executions,
-        timing,
-        frame,
-        sym,
-        plan,
+) -> Result<Ending, Fault> {
+    let mut source = call.open(draw.changes)?;
+    let served = draw_changes(
+        call.alloc(),
+        call.setup,
+        &mut source,
+        picture.frame,
+        picture.sym,
+        picture.plan,
+        picture.named,
         answers,
     )
-    .map_err(|fault| page_fault(fault, About::Trades, last_of(request)));
-    both_ended(&mut changes, &mut executions, served)
+    .map_err(|fault| drawing_fault(fault, last_of(draw), draw.changes.about));
+    source.ended(served)
+}
+
+/// Writes the page of a day with the executions of a file. Both files are opened before either is read.
+fn draw_trades<T: Host, W: Write>(
+    call: &Call<'_, T>,
+    draw: &Draw<'_>,
+    trades: Path<'_>,
+    picture: &Picture<'_>,
+    answers: &mut W,
+) -> Result<Ending, Fault> {
+    let symbols = call.read_given(draw.within.map(|within| within.symbols))?;
+    let symbols = symbols.as_ref().map(Vec::as_slice);
+    let timing = timing_of(picture.frame.times, symbols, false, None);
+    let mut changes = call.open(draw.changes)?;
+    let mut executions = call.open(trades)?;
+    let served = draw_executions(
+        call.alloc(),
+        call.setup,
+        &mut changes,
+        &mut executions,
+        timing.as_ref(),
+        picture.frame,
+        picture.sym,
+        picture.plan,
+        picture.named,
+        answers,
+    )
+    .map_err(|fault| page_fault(fault, trades.about, last_of(draw)));
+    changes.ended(executions.ended(served))
 }
 
 /// What names the last version that is drawn.
-fn last_of(request: &Request<'_>) -> About {
-    if request.to.is_some() {
-        About::To
+fn last_of(draw: &Draw<'_>) -> About {
+    if matches!(draw.to, Ok(None)) {
+        About::Value("from")
     } else {
-        About::From
+        About::Value("to")
     }
 }
 
@@ -175,8 +135,8 @@ fn last_of(request: &Request<'_>) -> About {
 pub(crate) fn drawing_fault(fault: DrawingFault, version: About, changes: About) -> Fault {
     let about = match fault {
         DrawingFault::VersionBeyondTape => version,
-        DrawingFault::Plan(_) => About::Plan,
-        DrawingFault::Times(_) => About::Times,
+        DrawingFault::Plan(_) => About::Value("plan"),
+        DrawingFault::Times(_) => About::Value("times"),
         DrawingFault::Changes(_)
         | DrawingFault::Board(_)
         | DrawingFault::WriteFault
@@ -185,19 +145,19 @@ pub(crate) fn drawing_fault(fault: DrawingFault, version: About, changes: About)
     Fault::of(fault.code(), about)
 }
 
-/// The versions that are drawn, and what the axis counts. With a file of symbols they are at most those of the symbol.
-fn frame_of<'a, T: AllocGlobal + Files>(
-    rt: &T,
-    request: &Request<'_>,
+/// The versions that are shown, and what the page counts. With a file of symbols they are at most those of the symbol.
+fn frame_of<'a, T: Host>(
+    call: &Call<'_, T>,
+    draw: &Draw<'_>,
     times: Option<&'a Times>,
 ) -> Result<Frame<'a>, Fault> {
-    let (first, last) = span_of(rt, request, times)?;
-    let from = end_of(rt, request, times, request.from, About::From)?.unwrap_or(0);
-    let to = end_of(rt, request, times, request.to, About::To)?;
+    let (first, last) = span_drawn(call, draw, times)?;
+    let from = end_of(call, draw, &draw.from, times)?.unwrap_or(0);
+    let to = end_of(call, draw, &draw.to, times)?;
+    let (since, until) = (time_of(&draw.from), time_of(&draw.to));
     if to.is_some_and(|to| from > to) {
         return Err(Fault::usage(About::Nothing, "--from is a version after that of --to"));
     }
-    let (since, until) = (time_given(request.from), time_given(request.to));
     if let (Some(since), Some(until)) = (since, until) {
         if since > until {
             return Err(Fault::usage(About::Nothing, "--from is a time after that of --to"));
@@ -206,31 +166,51 @@ fn frame_of<'a, T: AllocGlobal + Files>(
     Ok(Frame {
         from: from.max(first).min(last.unwrap_or(u64::MAX)),
         to: sooner(to, last),
-        own: request.own,
+        own: draw.own,
         times,
         opening: first,
         since,
         until,
+        bests: draw.bests,
     })
 }
 
-/// The version at which an option begins or ends what is drawn, if it was given.
-fn end_of<T: AllocGlobal + Files>(
-    rt: &T,
-    request: &Request<'_>,
+/// The first and the last version of the symbol, by the file of symbols; without one, those of the changes.
+fn span_drawn<T: Host>(
+    call: &Call<'_, T>,
+    draw: &Draw<'_>,
     times: Option<&Times>,
-    word: Option<&str>,
-    about: About,
+) -> Result<(u64, Option<u64>), Fault> {
+    let Some(within) = draw.within else {
+        return Ok((0, None));
+    };
+    let Some(times) = times else {
+        return Err(Fault::usage(within.symbols.about, "--symbols needs --times"));
+    };
+    let span = span_of(call, within, times.len())?;
+    Ok((span.before as u64, Some(span.last as u64)))
+}
+
+/// The version at which an option begins or ends what is drawn, if it was given.
+fn end_of<T: Host>(
+    call: &Call<'_, T>,
+    draw: &Draw<'_>,
+    given: &Result<Option<Version>, Fault>,
+    times: Option<&Times>,
 ) -> Result<Option<u64>, Fault> {
-    match word {
-        Some(word) => Ok(Some(version_given(rt, request, times, word, about)?)),
-        None => Ok(None),
+    match given {
+        Ok(Some(version)) => Ok(Some(number_of(call, version, draw.within, times)?)),
+        Ok(None) => Ok(None),
+        Err(fault) => Err(*fault),
     }
 }
 
-/// The time that a word names by `@`, if it was given.
-fn time_given(word: Option<&str>) -> Option<TimeOfDay> {
-    TimeOfDay::parse(word?.strip_prefix('@')?.as_bytes())
+/// The time by which a version is found, if it is found by one.
+fn time_of(given: &Result<Option<Version>, Fault>) -> Option<TimeOfDay> {
+    match given {
+        Ok(Some(Version::At { time, .. })) => Some(*time),
+        Ok(Some(Version::Number(_)) | None) | Err(_) => None,
+    }
 }
 
 /// The sooner of two versions, or the one that there is.
@@ -240,51 +220,4 @@ fn sooner(one: Option<u64>, other: Option<u64>) -> Option<u64> {
         (Some(version), None) | (None, Some(version)) => Some(version),
         (None, None) => None,
     }
-}
-
-/// The first and the last version of the symbol, by the file of symbols; without one, those of the changes.
-fn span_of<T: AllocGlobal + Files>(
-    rt: &T,
-    request: &Request<'_>,
-    times: Option<&Times>,
-) -> Result<(u64, Option<u64>), Fault> {
-    let Some(file) = request.symbols else {
-        return Ok((0, None));
-    };
-    let Some(times) = times else {
-        return Err(Fault::usage(About::Symbols, "--symbols needs --times"));
-    };
-    let text = read_file(rt, file, About::Symbols)?;
-    match find_span(&text, word_at(request, SYMBOL).as_bytes(), times.len()) {
-        Ok(Some(span)) => Ok((span.before as u64, Some(span.last as u64))),
-        Ok(None) => Err(Fault::usage(
-            About::Word(SYMBOL),
-            "the file of symbols has no line of it; capitals count",
-        )),
-        Err(fault) => Err(Fault::of_times(fault, About::Symbols)),
-    }
-}
-
-/// The version that a word names: a number, or `@` and a time, which is found among the given times.
-fn version_given<T: AllocGlobal + Files>(
-    rt: &T,
-    request: &Request<'_>,
-    times: Option<&Times>,
-    word: &str,
-    about: About,
-) -> Result<u64, Fault> {
-    let Some(digits) = word.strip_prefix('@') else {
-        return version_in(word, about);
-    };
-    let Some(time) = TimeOfDay::parse(digits.as_bytes()) else {
-        return Err(Fault::usage(
-            about,
-            "a time is six digits HHMMSS, and up to nine after them",
-        ));
-    };
-    let Some(times) = times else {
-        return Err(Fault::usage(about, "a time in place of a version needs --times"));
-    };
-    let symbol = (word_at(request, SYMBOL), About::Word(SYMBOL));
-    Ok(rising_of(rt, request, symbol, times, About::Times)?.version_at(time))
 }

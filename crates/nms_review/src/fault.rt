@@ -26,30 +26,8 @@ pub(crate) enum About {
     Nothing,
     /// The subcommand's own word at that place, from 0.
     Word(usize),
-    /// The value of `--setup`.
-    Setup,
-    /// The value of `--feed`.
-    Feed,
-    /// The value of `--plan`.
-    Plan,
-    /// The value of `--times`.
-    Times,
-    /// The value of `--symbols`.
-    Symbols,
-    /// The value of `--symbol`.
-    Symbol,
-    /// The value of `--version`.
-    Version,
-    /// The value of `--map`.
-    Map,
-    /// The value of `--from`.
-    From,
-    /// The value of `--to`.
-    To,
-    /// The value of `--trades`.
-    Trades,
-    /// The value of `--html`.
-    Html,
+    /// The value of the option of that name.
+    Value(&'static str),
     /// A file that is written under the value of `--out`.
     Out(Output),
 }
@@ -98,8 +76,11 @@ impl Fault {
     }
 
     /// E2: an output could not be written.
-    pub(crate) fn unwritten(output: Output) -> Self {
-        Fault::of(Code::E2, About::Nothing).in_output(output)
+    pub(crate) fn unwritten(about: About) -> Self {
+        Fault {
+            about,
+            ..Fault::of(Code::E2, About::Nothing)
+        }
     }
 
     /// E4: out of memory.
@@ -110,12 +91,17 @@ impl Fault {
     /// The same fault; E2 is about this output.
     pub(crate) fn in_output(self, output: Output) -> Self {
         if self.code == Code::E2 {
-            Fault {
-                about: About::Out(output),
-                ..self
-            }
+            Fault::unwritten(About::Out(output))
         } else {
             self
+        }
+    }
+
+    /// The same fault. If a file could not be read to its end, E1 has the system's reason.
+    pub(crate) fn with_reason(self, failed: Option<io::Error>) -> Self {
+        match failed {
+            Some(error) if self.code == Code::E1 => Fault::unread(error, self.about),
+            Some(_) | None => self,
         }
     }
 

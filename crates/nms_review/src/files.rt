@@ -1,6 +1,7 @@
-//! Files of a call: opened, or read whole.
+//! The setup of a call, and files that it writes: none of them is one that it reads.
+use crate::call::{Call, Host};
 use crate::fault::{About, Fault};
-use crate::words::Request;
+use crate::words::Words;
 use nms_codes::Code;
 use nms_fees::{SETUP_K, Setup, read_setup_bytes};
 use std::alloc::Global;
@@ -8,44 +9,23 @@ use std::fs;
 use std::os::unix::fs::MetadataExt;
 use std::rt::Files;
 
-/// The subcommand's own word at a place, from 0. The parser makes sure that the needed ones are there.
-pub(crate) fn word_at<'a>(request: &Request<'a>, place: usize) -> &'a str {
-    match request.words.get(place) {
-        Some(word) => *word,
-        None => "",
-    }
-}
+/// The options that name files which a call with an output reads, besides its own words.
+const READ: [&'static str; 3] = ["setup", "times", "symbols"];
 
-/// Opens the file that a subcommand's own word names.
-pub(crate) fn open_word<T: Files>(
-    rt: &T,
-    request: &Request<'_>,
-    place: usize,
-) -> Result<T::File, Fault> {
-    fs::open(rt, word_at(request, place)).map_err(|error| Fault::unread(error, About::Word(place)))
-}
-
-/// A new file at the path of `--html` or of `--out`. A file that the request reads is never overwritten, by any name or link that
-/// leads to it. E2 is about the path of `--html`.
-pub(crate) fn create_file<T: Files>(
-    rt: &T,
-    request: &Request<'_>,
+/// A new file at a path. A file that the call reads is never overwritten, by any name or link that leads to it. E2 is about the
+/// given word.
+pub(crate) fn create_file<T: Host>(
+    call: &Call<'_, T>,
     path: &str,
+    about: About,
 ) -> Result<T::File, Fault> {
-    refuse_input(rt, request, path)?;
-    fs::create(rt, path).map_err(|_| Fault {
-        about: About::Html,
-        ..Fault::of(Code::E2, About::Nothing)
-    })
+    refuse_input(call, path)?;
+    fs::create(call.rt, path).map_err(|_| Fault::unwritten(about))
 }
 
-/// Refuses a path that leads to a file that the request reads.
-pub(crate) fn refuse_input<T: Files>(
-    rt: &T,
-    request: &Request<'_>,
-    path: &str,
-) -> Result<(), Fault> {
-    match input_at(rt, request, path) {
+/// Refuses a path that leads to a file that the call reads.
+pub(crate) fn refuse_input<T: Host>(call: &Call<'_, T>, path: &str) -> Result<(), Fault> {
+    match input_at(call.rt, call.words, path) {
         Some(about) => Err(Fault::usage(about, "it is read here, and would be overwritten")),
         None => Ok(()),
     }
@@ -56,22 +36,18 @@ pub(crate) fn is_file<T: Files>(rt: &T, path: &str) -> bool {
     identity_of(rt, path).is_some()
 }
 
-/// The file at a path that the request reads, if there is one.
-fn input_at<T: Files>(rt: &T, request: &Request<'_>, path: &str) -> Option<About> {
+/// The word that names the file at a path, if the call reads it.
+fn input_at<T: Files>(rt: &T, words: &Words<'_>, path: &str) -> Option<About> {
     let own = identity_of(rt, path)?;
-    for place in 0..request.words.len() {
-        if identity_of(rt, word_at(request, place)) == Some(own) {
+    for place in 0..words.own.len() {
+        if is_at(rt, words.word(place), own) {
             return Some(About::Word(place));
         }
     }
-    if is_at(rt, request.setup, own) {
-        return Some(About::Setup);
-    }
-    if is_at(rt, request.times, own) {
-        return Some(About::Times);
-    }
-    if is_at(rt, request.symbols, own) {
-        return Some(About::Symbols);
+    for option in READ {
+        if is_at(rt, words.option(option), own) {
+            return Some(About::Value(option));
+        }
     }
     None
 }
@@ -92,31 +68,22 @@ fn identity_of<T: Files>(rt: &T, path: &str) -> Option<(u64, u64)> {
     }
 }
 
-/// The bytes of a file.
-pub(crate) fn read_file<T: Files + AllocGlobal>(
-    rt: &T,
-    path: &str,
-    about: About,
-) -> Result<Vec<u8>, Fault> {
-    fs::read(rt, path).map_err(|error| Fault::unread(error, about))
-}
-
-/// The setup of the file that the request names, or the built-in one.
-pub(crate) fn setup_of<T: Files + AllocGlobal>(
-    rt: &T,
-    request: &Request<'_>,
-) -> Result<Setup, Fault> {
-    let Some(file) = request.setup else {
-        return setup_in(rt.alloc(), SETUP_K.as_bytes());
-    };
-    let bytes = read_file(rt, file, About::Setup)?;
-    setup_in(rt.alloc(), &bytes)
+/// The setup of the file that the words name, or the built-in one.
+pub(crate) fn setup_of<T: Host>(rt: &T, words: &Words<'_>) -> Result<Setup, Fault> {
+    let about = About::Value("setup");
+    match words.option("setup") {
+        Some(file) => match fs::read(rt, file) {
+            Ok(bytes) => setup_in(rt.alloc(), &bytes, about),
+            Err(error) => Err(Fault::unread(error, about)),
+        },
+        None => setup_in(rt.alloc(), SETUP_K.as_bytes(), about),
+    }
 }
 
 /// The setup that the bytes of a file give.
-fn setup_in(alloc: Global, bytes: &[u8]) -> Result<Setup, Fault> {
+fn setup_in(alloc: Global, bytes: &[u8], about: About) -> Result<Setup, Fault> {
     match read_setup_bytes(alloc, bytes) {
         Ok(setup) => Ok(setup),
-        Err(fault) => Err(Fault::of(Code::of_setup(fault), About::Setup)),
+        Err(fault) => Err(Fault::of(Code::of_setup(fault), about)),
     }
 }

@@ -1,37 +1,31 @@
-//! The subcommand `import` with a mapping of trades: opens a vendor's files one after another, and writes their executions to
+//! The subcommand `import` with a mapping of trades: reads a vendor's files one after another, and writes their executions to
 //! one file.
 use crate::answers::Answers;
+use crate::call::{Call, Host};
 use crate::fault::{About, Fault, Output};
-use crate::files::word_at;
-use crate::importing::{
-    fault_in, flush, lacks_columns, name_built_in, show_short, show_text, tell_map_fault,
-};
-use crate::outputs::{TRADES, check_outputs, create, publish, remove_parts};
-use crate::screen::Screen;
-use crate::source::Source;
-use crate::vendor::open_vendor;
-use crate::words::Request;
-use csv::Reader;
+use crate::importing::too_long;
+use crate::notices::{note_built_in, note_short, refuse_columns, refuse_map, show_kept};
+use crate::outputs::{TRADES, check_outputs, create, flush, publish, remove_parts};
+use crate::request::{Import, Path};
+use crate::vendor::{Rows, fault_in, map_text, open_vendor};
 use nms_codes::Code;
-use nms_fees::Setup;
-use nms_import::{ImportFault, MapFault, RowSource, document_of};
+use nms_import::{MapFault, document_of};
 use nms_import_trades::{
-    TradeColumns, TradeMapping, TradeSums, TradeTally, TradeTold, TradeWork, import_trades,
-    is_of_trades, read_trade_mapping, write_trade_tally,
+    TradeMapping, TradeSums, TradeTally, TradeTold, TradeWork, import_trades, is_of_trades,
+    read_trade_mapping, write_trade_tally,
 };
 use nms_show::Ending;
 use std::alloc::Global;
-use std::io::{Read, Write};
-use std::rt::Files;
-use std::str;
-use std::time::Clock;
+use std::io::Write;
 
-/// The place of the first file's word: the mapping stands before it.
-const FILES: usize = 1;
+const EXECUTIONS: Output = Output {
+    shard: 0,
+    end: ".executions",
+};
 
 /// Whether a text is a mapping of trades. A text that can't be read is not: it is refused as a mapping of quotes.
 pub(crate) fn is_trade_map(alloc: Global, text: &[u8]) -> bool {
-    let Ok(text) = str::from_utf8(text) else {
+    let Ok(text) = map_text(text) else {
         return false;
     };
     match document_of(alloc, text) {
@@ -42,217 +36,145 @@ pub(crate) fn is_trade_map(alloc: Global, text: &[u8]) -> bool {
 
 /// The mapping of trades given by a text.
 fn trade_map_of(alloc: Global, text: &[u8]) -> Result<TradeMapping, MapFault> {
-    match str::from_utf8(text) {
+    match map_text(text) {
         Ok(text) => read_trade_mapping(alloc, text),
-        Err(_) => Err(MapFault::NotToml { line: 1 }),
+        Err(fault) => Err(fault),
     }
 }
 
-/// Makes executions of a vendor's files, by the mapping of a text.
-pub(crate) fn serve_import_trades<T, W: Write>(
-    rt: &T,
-    screen: Screen,
-    setup: &Setup,
-    request: &Request<'_>,
-    text: &[u8],
-    answers: &mut W,
-) -> Result<Ending, Fault>
-where
-    T: AllocGlobal + Clock + Eprint + Files,
-{
-    if request.rows || request.shards {
-        return Err(Fault::usage(
-            About::Nothing,
-            "a mapping of trades takes no --rows and no --shards",
-        ));
-    }
-    match trade_map_of(rt.alloc(), text) {
-        Ok(mapping) => import_trade_files(rt, screen, setup, request, &mapping, answers),
-        Err(fault) => tell_map_fault(rt, word_at(request, 0), &fault),
-    }
-}
-
-/// The file being written, and the state kept from one of the vendor's files to the next.
+/// Executions that are made in one file, and what is kept from one of the vendor's files to the next.
 #[derive(Drop)]
-struct TradeJob<'a, F> {
+struct Executions<'a, T, F> {
+    call: &'a Call<'a, T>,
+    import: &'a Import<'a>,
+    mapping: &'a TradeMapping,
     executions: Answers<F>,
     work: TradeWork,
     told: TradeTold<'a, Vec<u8>>,
     tally: TradeTally,
 }
 
-/// Makes executions of the files, and reports the counts.
-fn import_trade_files<T, W: Write>(
-    rt: &T,
-    screen: Screen,
-    setup: &Setup,
-    request: &Request<'_>,
+/// Makes executions of a vendor's files, by the mapping of a text.
+pub(crate) fn serve_trade_map<T: Host, W: Write>(
+    call: &Call<'_, T>,
+    import: &Import<'_>,
+    text: &[u8],
+    answers: &mut W,
+) -> Result<Ending, Fault> {
+    if import.rows || import.shards {
+        return Err(Fault::usage(
+            About::Nothing,
+            "a mapping of trades takes no --rows and no --shards",
+        ));
+    }
+    match trade_map_of(call.alloc(), text) {
+        Ok(mapping) => import_executions(call, import, &mapping, answers),
+        Err(fault) => refuse_map(call, import.map, &fault),
+    }
+}
+
+/// Makes executions by a mapping.
+fn import_executions<T: Host, W: Write>(
+    call: &Call<'_, T>,
+    import: &Import<'_>,
     mapping: &TradeMapping,
     answers: &mut W,
-) -> Result<Ending, Fault>
-where
-    T: AllocGlobal + Clock + Eprint + Files,
-{
-    check_outputs(rt, request, 0, &TRADES)?;
-    let ended = match begin_job(rt, request, mapping) {
-        Ok(mut job) => import_all(rt, screen, setup, request, mapping, &mut job, answers),
+) -> Result<Ending, Fault> {
+    check_outputs(call, import.out, 0, &TRADES)?;
+    let ended = match begin(call, import, mapping) {
+        Ok(mut executions) => executions.run(answers),
         Err(fault) => Err(fault),
     };
-    remove_parts(rt, request, 0, &TRADES);
+    remove_parts(call, import.out, 0, &TRADES);
     ended
 }
 
-/// Makes the file that is written.
-fn begin_job<'a, T: AllocGlobal + Files>(
-    rt: &T,
-    request: &Request<'a>,
-    mapping: &TradeMapping,
-) -> Result<TradeJob<'a, T::File>, Fault> {
-    let alloc = rt.alloc();
-    match create(rt, request, 0, ".executions") {
-        Ok(executions) => Ok(TradeJob {
+/// Makes the file.
+fn begin<'a, T: Host>(
+    call: &'a Call<'a, T>,
+    import: &'a Import<'a>,
+    mapping: &'a TradeMapping,
+) -> Result<Executions<'a, T, T::File>, Fault> {
+    match create(call, import.out, EXECUTIONS) {
+        Ok(executions) => Ok(Executions {
+            call,
+            import,
+            mapping,
             executions,
-            work: TradeWork::new(alloc, mapping.file.count),
-            told: TradeTold::new(Vec::new(alloc)),
+            work: TradeWork::new(call.alloc(), mapping.file.count),
+            told: TradeTold::new(Vec::new(call.alloc())),
             tally: TradeTally::none(),
         }),
         Err(fault) => Err(fault),
     }
 }
 
-/// Makes executions of all files, and reports the counts.
-fn import_all<'a, T, W: Write>(
-    rt: &T,
-    screen: Screen,
-    setup: &Setup,
-    request: &Request<'a>,
-    mapping: &TradeMapping,
-    job: &mut TradeJob<'a, T::File>,
-    answers: &mut W,
-) -> Result<Ending, Fault>
-where
-    T: AllocGlobal + Clock + Eprint + Files,
-{
-    for place in FILES..request.words.len() {
-        if !import_trade_file(rt, screen, setup, request, mapping, place, job)? {
-            return Ok(Ending::SetupRefused);
+impl<'a, T: Host> Executions<'a, T, T::File> {
+    /// Makes executions of all files, and reports the counts and the doubts about the import.
+    fn run<W: Write>(&mut self, answers: &mut W) -> Result<Ending, Fault> {
+        let (call, import) = (self.call, self.import);
+        for file in &import.files {
+            let mut rows = open_vendor(call, *file, self.mapping.file)?;
+            let taken = self.take_rows(*file, &mut rows);
+            rows.close();
+            show_kept(call, &mut self.told.errors);
+            let ending = taken?;
+            if !matches!(ending, Ending::Done) {
+                return Ok(ending);
+            }
+        }
+        flush(&mut self.executions, EXECUTIONS)?;
+        publish(call, import.out, &TRADES)?;
+        let sums = self.sums()?;
+        let tally = &self.tally;
+        write_trade_tally(answers, tally, &sums)?;
+        if tally.unknown_participant > 0 || tally.unknown_symbol > 0 || tally.other_symbol > 0 {
+            note_built_in(call, import)?;
+        }
+        match doubt_of(&sums, self.work.lasts.short) {
+            Some(code) => Err(Fault::of(code, About::Nothing)),
+            None => Ok(Ending::Done),
         }
     }
-    finish(rt, request, job, answers)
-}
 
-/// Makes executions of one file. Returns whether it has the columns that the mapping names; if not, that is reported.
-fn import_trade_file<'a, T>(
-    rt: &T,
-    screen: Screen,
-    setup: &Setup,
-    request: &Request<'a>,
-    mapping: &TradeMapping,
-    place: usize,
-    job: &mut TradeJob<'a, T::File>,
-) -> Result<bool, Fault>
-where
-    T: AllocGlobal + Clock + Eprint + Files,
-{
-    let mut reader = open_vendor(rt, screen, request, place, mapping.file, &mut job.work.row)?;
-    let imported = import_columns(rt, setup, request, mapping, place, &mut reader, job);
-    let mut source = reader.into_inner().into_source();
-    source.clear();
-    show_told(rt, &mut job.told);
-    imported
-}
-
-/// Makes executions of a file whose names of columns were read. Returns as `import_trade_file` does.
-fn import_columns<'a, T>(
-    rt: &T,
-    setup: &Setup,
-    request: &Request<'a>,
-    mapping: &TradeMapping,
-    place: usize,
-    reader: &mut Reader<RowSource<Source<'_, T, T::File>>>,
-    job: &mut TradeJob<'a, T::File>,
-) -> Result<bool, Fault>
-where
-    T: AllocGlobal + Clock + Eprint + Files,
-{
-    match mapping.columns(rt.alloc(), &job.work.row) {
-        Ok(columns) => {
-            let file = word_at(request, place);
-            job.told.enter(file);
-            let was_short = job.work.lasts.short;
-            let before = sums_of(job)?.rows;
-            job.work.lasts.begin_file(before);
-            let imported = import_placed(setup, mapping, &columns, place, reader, job)?;
-            let rows = sums_of(job)?.rows;
-            job.work.lasts.end_file(rows);
-            show_short(rt, file, was_short, job.work.lasts.short)?;
-            Ok(imported)
+    /// The sums of the rows so far.
+    fn sums(&self) -> Result<TradeSums, Fault> {
+        match self.tally.sums() {
+            Some(sums) => Ok(sums),
+            None => Err(too_long()),
         }
-        Err(fault) => lacks_columns(rt, word_at(request, place), &fault, &job.work.row),
     }
-}
 
-/// Makes executions of the rows that a reader still has, and returns true.
-fn import_placed<T, F>(
-    setup: &Setup,
-    mapping: &TradeMapping,
-    columns: &TradeColumns,
-    place: usize,
-    reader: &mut Reader<RowSource<Source<'_, T, F>>>,
-    job: &mut TradeJob<'_, F>,
-) -> Result<bool, Fault>
-where
-    T: Clock + Eprint,
-    F: Read + Write,
-{
-    let imported = import_trades(
-        columns,
-        &mapping.meanings,
-        setup.roster(),
-        &mut job.work,
-        reader,
-        &mut job.executions,
-        &mut job.told,
-        &mut job.tally,
-    );
-    match imported {
-        Ok(()) => Ok(true),
-        Err(fault) => Err(fault_in(fault, place).in_output(Output {
-            shard: 0,
-            end: ".executions",
-        })),
-    }
-}
-
-/// The sums of the rows that were imported so far.
-fn sums_of<F>(job: &TradeJob<'_, F>) -> Result<TradeSums, Fault> {
-    match job.tally.sums() {
-        Some(sums) => Ok(sums),
-        None => Err(fault_in(ImportFault::TooLong, FILES)),
-    }
-}
-
-/// Writes the rest and the counts, and reports the doubts about the import.
-fn finish<T, W: Write>(
-    rt: &T,
-    request: &Request<'_>,
-    job: &mut TradeJob<'_, T::File>,
-    answers: &mut W,
-) -> Result<Ending, Fault>
-where
-    T: AllocGlobal + Eprint + Files,
-{
-    flush(&mut job.executions, 0, ".executions")?;
-    publish(rt, request, &TRADES)?;
-    let sums = sums_of(job)?;
-    let tally = &job.tally;
-    write_trade_tally(answers, tally, &sums)?;
-    if tally.unknown_participant > 0 || tally.unknown_symbol > 0 || tally.other_symbol > 0 {
-        name_built_in(rt, request)?;
-    }
-    match doubt_of(&sums, job.work.lasts.short) {
-        Some(code) => Err(Fault::of(code, About::Nothing)),
-        None => Ok(Ending::Done),
+    /// Makes executions of the rows of a file.
+    fn take_rows(
+        &mut self,
+        file: Path<'a>,
+        rows: &mut Rows<'_, T, T::File>,
+    ) -> Result<Ending, Fault> {
+        let (call, mapping) = (self.call, self.mapping);
+        let columns = match mapping.columns(call.alloc(), &rows.names) {
+            Ok(columns) => columns,
+            Err(fault) => return refuse_columns(call, file, &fault, &rows.names),
+        };
+        let before = self.sums()?.rows;
+        let was_short = self.work.lasts.short;
+        self.told.enter(file.name);
+        self.work.lasts.begin_file(before);
+        import_trades(
+            &columns,
+            &mapping.meanings,
+            call.setup.roster(),
+            &mut self.work,
+            &mut rows.reader,
+            &mut self.executions,
+            &mut self.told,
+            &mut self.tally,
+        )
+        .map_err(|fault| fault_in(fault, file.about).in_output(EXECUTIONS))?;
+        let rows = self.sums()?.rows;
+        self.work.lasts.end_file(rows);
+        note_short(call, file, was_short, self.work.lasts.short)?;
+        Ok(Ending::Done)
     }
 }
 
@@ -268,10 +190,4 @@ fn doubt_of(sums: &TradeSums, is_short: bool) -> Option<Code> {
     } else {
         None
     }
-}
-
-/// Shows the rows that were refused or skipped, on standard error.
-fn show_told<T: Eprint>(rt: &T, told: &mut TradeTold<'_, Vec<u8>>) {
-    show_text(rt, &told.errors);
-    told.errors.clear();
 }

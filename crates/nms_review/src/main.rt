@@ -11,9 +11,11 @@ mod fault;
 mod files;
 mod importing;
 mod importing_trades;
+mod notices;
 mod outputs;
 mod paging;
 mod progress;
+mod request;
 mod screen;
 mod serving;
 mod source;
@@ -24,8 +26,9 @@ mod trading;
 mod vendor;
 mod words;
 
-use crate::words::{Request, WordsFault, read_words};
+use crate::words::{Words, WordsFault, read_words};
 use answers::Answers;
+use call::Host;
 use fault::Fault;
 use nms_codes::Code;
 use nms_show::{Ending, Form, Item, open_closed_streams, write_line};
@@ -34,8 +37,7 @@ use serving::serve;
 use std::alloc::Global;
 use std::io::{ErrorKind, IsTerminal, Write};
 use std::process::ExitCode;
-use std::rt::{Env, Files};
-use std::time::Clock;
+use std::rt::Env;
 use std::{env, io};
 pub use tape::{taken_by_script, write_tape};
 use telling::tell_fault;
@@ -56,10 +58,7 @@ fn main(rt: HostRuntime) -> ExitCode {
 }
 
 /// Serves the process's own words, and gives the exit status.
-fn answer_words<T, E: Write>(rt: &T, screen: Screen, errors: &mut E) -> u8
-where
-    T: AllocGlobal + Clock + Env + Eprint + Files + Print,
-{
+fn answer_words<T: Host + Env + Print, E: Write>(rt: &T, screen: Screen, errors: &mut E) -> u8 {
     let own = match own_words(rt) {
         Ok(own) => own,
         Err(ErrorKind::OutOfMemory) => return tell_code(errors, Code::G2),
@@ -72,39 +71,29 @@ where
 }
 
 /// Serves these words, and gives the exit status.
-fn answer<T, E: Write>(rt: &T, screen: Screen, words: &[&str], errors: &mut E) -> u8
-where
-    T: AllocGlobal + Clock + Eprint + Files + Print,
-{
+fn answer<T: Host + Print, E: Write>(rt: &T, screen: Screen, words: &[&str], errors: &mut E) -> u8 {
     match read_words(rt.alloc(), words) {
-        Ok(request) => answer_request(rt, screen, &request, errors),
+        Ok(words) => match serve_whole(rt, screen, &words) {
+            Ok(ending) => ending.status(),
+            Err(fault) => tell_fault(&fault, &words, errors),
+        },
         Err(WordsFault::Parser { text, help: true }) => tell_help(rt, text.as_str(), errors),
         Err(WordsFault::Parser { text, help: false }) => tell_refusal(errors, text.as_str()),
         Err(WordsFault::NoMemory) => tell_code(errors, Code::G2),
     }
 }
 
-/// Serves a request, and gives the exit status.
-fn answer_request<T, E: Write>(rt: &T, screen: Screen, request: &Request<'_>, errors: &mut E) -> u8
-where
-    T: AllocGlobal + Clock + Eprint + Files + Print,
-{
-    match serve_whole(rt, screen, request) {
-        Ok(ending) => ending.status(),
-        Err(fault) => tell_fault(&fault, request, errors),
-    }
-}
-
-/// Serves a request, and writes out all its answers, also if it could not be served to its end.
-fn serve_whole<T>(rt: &T, screen: Screen, request: &Request<'_>) -> Result<Ending, Fault>
-where
-    T: AllocGlobal + Clock + Eprint + Files + Print,
-{
+/// Serves what the words ask for, and writes out all answers, also if it could not be served to its end.
+fn serve_whole<T: Host + Print>(
+    rt: &T,
+    screen: Screen,
+    words: &Words<'_>,
+) -> Result<Ending, Fault> {
     let both = screen.answers && screen.errors;
     let Ok(mut answers) = Answers::new(rt.alloc(), io::writer(rt), both) else {
-        return Err(Fault::of(Code::E4, fault::About::Nothing));
+        return Err(Fault::no_memory());
     };
-    let served = serve(rt, screen, request, &mut answers);
+    let served = serve(rt, screen, words, &mut answers);
     match answers.flush() {
         Ok(()) => served,
         Err(_) => served.and(Err(Fault::of(Code::E2, fault::About::Nothing))),

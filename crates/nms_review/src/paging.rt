@@ -1,99 +1,114 @@
-//! The option `--html` of `trades`: writes a page for the file, beside the answers.
+//! The option `--html` of `trades`: writes a page for the file, next to the answers.
 use crate::answers::Answers;
-use crate::call::form_of;
+use crate::call::{Call, Host};
 use crate::drawing::drawing_fault;
 use crate::fault::{About, Fault};
-use crate::files::{create_file, word_at};
-use crate::screen::Screen;
-use crate::source::{Source, open_source};
+use crate::files::create_file;
+use crate::request::{Path, Trades};
 use crate::trading::trades_fault;
-use crate::words::Request;
+use crate::words::Words;
 use nms_codes::Code;
-use nms_drawing::{Named, PageFault, write_page};
-use nms_fees::Setup;
+use nms_drawing::{Asked, PageFault, write_page};
 use nms_show::Ending;
-use nms_trades::{Layout, Timing};
+use nms_trades::Timing;
+use std::alloc::AllocError;
 use std::io::Write;
-use std::rt::Files;
-use std::time::Clock;
 
-/// The places of the two files' words.
-const CHANGES: usize = 0;
-
-const EXECUTIONS: usize = 1;
-
-/// Judges a file of executions, and writes the page at a path. Both files are opened before it is made.
-pub(crate) fn serve_page<T, W: Write>(
-    rt: &T,
-    screen: Screen,
-    setup: &Setup,
-    request: &Request<'_>,
+/// Judges a file of executions, and writes the page. Both files are opened before it is made.
+pub(crate) fn serve_page<T: Host, W: Write>(
+    call: &Call<'_, T>,
+    trades: &Trades<'_>,
     timing: Option<&Timing<'_>>,
-    path: &str,
+    page: Path<'_>,
     answers: &mut W,
-) -> Result<Ending, Fault>
-where
-    T: AllocGlobal + Clock + Eprint + Files,
-{
-    let mut changes = open_source(rt, screen, request, CHANGES)?;
-    let mut executions = open_source(rt, screen, request, EXECUTIONS)?;
-    let file = create_file(rt, request, path)?;
-    let Ok(mut page) = Answers::new(rt.alloc(), file, false) else {
-        return Err(Fault::of(Code::E4, About::Nothing));
+) -> Result<Ending, Fault> {
+    let pairs = made_of(
+        call,
+        &[
+            ("changes", Some(trades.changes)),
+            ("executions", Some(trades.executions)),
+            ("times", trades.times),
+            ("symbols", trades.symbols),
+        ],
+    )?;
+    let mut changes = call.open(trades.changes)?;
+    let mut executions = call.open(trades.executions)?;
+    let file = create_file(call, page.name, page.about)?;
+    let Ok(mut page) = Answers::new(call.alloc(), file, false) else {
+        return Err(Fault::no_memory());
     };
-    let named = Named {
-        changes: word_at(request, CHANGES).as_bytes(),
-        executions: word_at(request, EXECUTIONS).as_bytes(),
-        before: request.before,
-        window: match timing {
-            Some(timing) if request.window.is_some() => Some(timing.window),
-            Some(_) | None => None,
-        },
-    };
-    let layout = if request.table {
-        Layout::Table
-    } else {
-        Layout::Lines
+    let asked = Asked {
+        form: call.form(),
+        layout: trades.layout,
+        pairs: &pairs,
+        bests: trades.bests,
     };
     let served = write_page(
-        rt.alloc(),
-        setup,
-        &named,
+        call.alloc(),
+        call.setup,
         &mut changes,
         &mut executions,
         timing,
-        form_of(screen, request),
-        layout,
+        &asked,
         &mut page,
         answers,
     );
     let served = match served {
         Ok(ending) if page.flush().is_ok() => Ok(ending),
         Ok(_) => Err(Fault::of(Code::E2, About::Nothing)),
-        Err(fault) => Err(page_fault(fault, About::Word(EXECUTIONS), About::Word(CHANGES))),
+        Err(fault) => Err(page_fault(fault, trades.executions.about, trades.changes.about)),
     };
-    both_ended(&mut changes, &mut executions, served)
+    changes.ended(executions.ended(served))
 }
 
-/// A fault of executions on a page or a picture: it is about the file of the executions, what names the version, or another file.
-pub(crate) fn page_fault(fault: PageFault, executions: About, version: About) -> Fault {
-    match fault {
-        PageFault::Drawing(fault) => drawing_fault(fault, version, About::Word(CHANGES)),
-        PageFault::Trades(fault) => trades_fault(fault, executions),
+/// What a page was made of, by pairs: each file that was given after what it is, the setup, and how versions are found by times.
+pub(crate) fn made_of<'a, T: Host>(
+    call: &Call<'a, T>,
+    files: &[(&'static str, Option<Path<'a>>)],
+) -> Result<Vec<&'a [u8]>, Fault> {
+    let mut pairs = Vec::new(call.alloc());
+    for (key, file) in files {
+        if let Some(file) = file {
+            if add_pair(&mut pairs, key, file.name.as_bytes()).is_err() {
+                return Err(Fault::no_memory());
+            }
+        }
+    }
+    match add_options(&mut pairs, call.words) {
+        Ok(()) => Ok(pairs),
+        Err(_) => Err(Fault::no_memory()),
     }
 }
 
-/// How a request that has read changes and executions ends: if the reading of one failed, the system's reason is reported.
-pub(crate) fn both_ended<T: Clock + Eprint, R>(
-    changes: &mut Source<'_, T, R>,
-    executions: &mut Source<'_, T, R>,
-    served: Result<Ending, Fault>,
-) -> Result<Ending, Fault> {
-    changes.clear();
-    executions.clear();
-    match (served, changes.failed(), executions.failed()) {
-        (Err(fault), Some(error), _) | (Err(fault), None, Some(error)) if fault.code == Code::E1 =>
-            { Err(Fault::unread(error, fault.about)) }
-        (served, _, _) => served,
+/// Adds the setup, and how versions are found by times.
+fn add_options<'a>(pairs: &mut Vec<&'a [u8]>, words: &'a Words<'a>) -> Result<(), AllocError> {
+    if let Some(setup) = words.option("setup") {
+        add_pair(pairs, "setup", setup.as_bytes())?;
+    }
+    if let Some(window) = words.option("window") {
+        add_pair(pairs, "window (ns)", window.as_bytes())?;
+    }
+    if words.has("before") {
+        add_pair(pairs, "before", b"yes")?;
+    }
+    Ok(())
+}
+
+/// Adds a pair: a key, its text.
+fn add_pair<'a>(
+    pairs: &mut Vec<&'a [u8]>,
+    key: &'static str,
+    text: &'a [u8],
+) -> Result<(), AllocError> {
+    pairs.push(key.as_bytes())?;
+    pairs.push(text)?;
+    Ok(())
+}
+
+/// A fault of executions on a page: it is about the file of the executions, what names the version, or another file.
+pub(crate) fn page_fault(fault: PageFault, executions: About, version: About) -> Fault {
+    match fault {
+        PageFault::Drawing(fault) => drawing_fault(fault, version, About::Word(0)),
+        PageFault::Trades(fault) => trades_fault(fault, executions),
     }
 }

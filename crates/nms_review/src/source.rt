@@ -1,14 +1,12 @@
 //! A file being read: how far it is, and why it could not be read.
 use crate::answers::ERASE;
 use crate::fault::Fault;
-use crate::files::open_word;
 use crate::progress::Progress;
 use crate::screen::Screen;
-use crate::words::Request;
+use nms_show::Ending;
 use std::fs::OpenFile;
 use std::io;
 use std::io::Read;
-use std::rt::Files;
 use std::time::Clock;
 
 /// A file being read.
@@ -45,6 +43,15 @@ impl<T: Clock + Eprint, R> Source<'_, T, R> {
         self.failed
     }
 
+    /// How a request ends that has read the file. The line of progress is removed.
+    pub(crate) fn ended(&mut self, served: Result<Ending, Fault>) -> Result<Ending, Fault> {
+        self.clear();
+        match served {
+            Ok(ending) => Ok(ending),
+            Err(fault) => Err(fault.with_reason(self.failed)),
+        }
+    }
+
     /// Removes the line of progress.
     pub(crate) fn clear(&mut self) {
         if self.is_shown {
@@ -62,19 +69,6 @@ impl<T: Clock + Eprint, R> Source<'_, T, R> {
             let _ = self.rt.eprint(*progress);
             self.is_shown = true;
         }
-    }
-}
-
-/// Opens the file that a subcommand's own word names.
-pub(crate) fn open_source<'a, T: Clock + Eprint + Files>(
-    rt: &'a T,
-    screen: Screen,
-    request: &Request<'_>,
-    place: usize,
-) -> Result<Source<'a, T, T::File>, Fault> {
-    match open_word(rt, request, place) {
-        Ok(file) => Ok(Source::new(rt, screen, file)),
-        Err(fault) => Err(fault),
     }
 }
 

@@ -1,14 +1,14 @@
 //! The report on a request that was not served.
 use crate::fault::{About, Fault};
-use crate::words::{Request, Sub};
+use crate::words::{Sub, Words};
 use nms_codes::{Code, Matter};
 use nms_show::{Form, Item, ShowFault, write_line};
 use std::io::{ErrorKind, Write};
 
 /// Reports a fault of a request, and gives the exit status.
-pub(crate) fn tell_fault<E: Write>(fault: &Fault, request: &Request<'_>, errors: &mut E) -> u8 {
-    if write_fault(fault, request, errors).is_ok() {
-        let _ = write_tip(fault, request, errors);
+pub(crate) fn tell_fault<E: Write>(fault: &Fault, words: &Words<'_>, errors: &mut E) -> u8 {
+    if write_fault(fault, words, errors).is_ok() {
+        let _ = write_tip(fault, words, errors);
     }
     fault.code.status()
 }
@@ -16,10 +16,10 @@ pub(crate) fn tell_fault<E: Write>(fault: &Fault, request: &Request<'_>, errors:
 /// Writes the line of a fault: the file or the word, the code, and a sentence.
 fn write_fault<E: Write>(
     fault: &Fault,
-    request: &Request<'_>,
+    words: &Words<'_>,
     errors: &mut E,
 ) -> Result<(), ShowFault> {
-    let name = word_of(fault.about, request);
+    let name = word_of(fault.about, words);
     let colon = if name.is_empty() { "" } else { ": " };
     let (line, number) = match fault.line {
         Some(line) => (": line ", Item::Number(line)),
@@ -43,18 +43,14 @@ fn write_fault<E: Write>(
 }
 
 /// Writes which call shows the place, for a file that was refused.
-fn write_tip<E: Write>(
-    fault: &Fault,
-    request: &Request<'_>,
-    errors: &mut E,
-) -> Result<(), ShowFault> {
-    let Some(kind) = kind_of(fault, request) else {
+fn write_tip<E: Write>(fault: &Fault, words: &Words<'_>, errors: &mut E) -> Result<(), ShowFault> {
+    let Some(kind) = kind_of(fault, words.command) else {
         return Ok(());
     };
-    let setup = if matches!(fault.about, About::Setup) {
+    let setup = if matches!(fault.about, About::Value("setup")) {
         None
     } else {
-        request.setup
+        words.option("setup")
     };
     let (option, setup) = match setup {
         Some(setup) => (" --setup ", setup),
@@ -64,7 +60,7 @@ fn write_tip<E: Write>(
         Item::Text("nms_review: where: nms_review explain "),
         Item::Text(kind),
         Item::Text(" "),
-        Item::Bytes(word_of(fault.about, request).as_bytes()),
+        Item::Bytes(word_of(fault.about, words).as_bytes()),
         Item::Text(option),
         Item::Bytes(setup.as_bytes()),
     ];
@@ -72,13 +68,13 @@ fn write_tip<E: Write>(
 }
 
 /// The kind of the file that was refused, as `explain` names it: only records and setups have places that it shows.
-fn kind_of(fault: &Fault, request: &Request<'_>) -> Option<&'static str> {
-    if request.command == Sub::Explain {
+fn kind_of(fault: &Fault, command: Sub) -> Option<&'static str> {
+    if command == Sub::Explain {
         return None;
     }
     match fault.code.matter() {
         Matter::Setup => Some("setup"),
-        Matter::Record => kind_of_records(fault.about, request.command),
+        Matter::Record => kind_of_records(fault.about, command),
         Matter::Content
         | Matter::Mapping
         | Matter::Words
@@ -92,53 +88,21 @@ fn kind_of(fault: &Fault, request: &Request<'_>) -> Option<&'static str> {
 /// The kind of a file of records that a call names, if it is one.
 fn kind_of_records(about: About, command: Sub) -> Option<&'static str> {
     match about {
-        About::Word(place) => Some(kind_of_word(place, command)),
-        About::Plan => Some("plan"),
-        About::Nothing
-        | About::Setup
-        | About::Feed
-        | About::Times
-        | About::Symbols
-        | About::Symbol
-        | About::Version
-        | About::Map
-        | About::From
-        | About::To
-        | About::Trades
-        | About::Html
-        | About::Out(_) => None,
-    }
-}
-
-/// The kind of the file of records that the subcommand's own word at that place names.
-fn kind_of_word(place: usize, command: Sub) -> &'static str {
-    if command == Sub::Tape {
-        "script"
-    } else if command == Sub::Why && place == 1 {
-        "plan"
-    } else {
-        "changes"
+        About::Word(0) if command == Sub::Tape => Some("script"),
+        About::Word(1) if command == Sub::Why => Some("plan"),
+        About::Word(_) => Some("changes"),
+        About::Value("plan") => Some("plan"),
+        About::Nothing | About::Value(_) | About::Out(_) => None,
     }
 }
 
 /// The word that a fault is about; nothing if it is about none.
-fn word_of<'a>(about: About, request: &Request<'a>) -> &'a str {
+fn word_of<'a>(about: About, words: &Words<'a>) -> &'a str {
     let word = match about {
         About::Nothing => None,
-        About::Word(place) => request.words.get(place).copied(),
-        About::Setup => request.setup,
-        About::Feed => request.feed,
-        About::Plan => request.plan,
-        About::Times => request.times,
-        About::Symbols => request.symbols,
-        About::Symbol => request.symbol,
-        About::Version => request.version,
-        About::Map => request.map,
-        About::From => request.from,
-        About::To => request.to,
-        About::Trades => request.trades,
-        About::Html => request.html,
-        About::Out(_) => request.out,
+        About::Word(place) => words.word(place),
+        About::Value(option) => words.option(option),
+        About::Out(_) => words.option("out"),
     };
     word.unwrap_or("")
 }
@@ -148,20 +112,7 @@ fn end_of(about: About) -> (&'static str, Item<'static>, &'static str) {
     match about {
         About::Out(output) if output.shard > 0 => (".", Item::Number(output.shard), output.end),
         About::Out(output) => ("", Item::Absent, output.end),
-        About::Nothing
-        | About::Word(_)
-        | About::Setup
-        | About::Feed
-        | About::Plan
-        | About::Times
-        | About::Symbols
-        | About::Symbol
-        | About::Version
-        | About::Map
-        | About::From
-        | About::To
-        | About::Trades
-        | About::Html => ("", Item::Absent, ""),
+        About::Nothing | About::Word(_) | About::Value(_) => ("", Item::Absent, ""),
     }
 }
 

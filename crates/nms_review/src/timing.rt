@@ -1,207 +1,99 @@
 //! The subcommand `when`: finds versions by their times, and the time of a version.
-use crate::call::{form_of, has_word, version_in, version_of};
-use crate::fault::{About, Fault};
-use crate::files::{read_file, word_at};
-use crate::screen::Screen;
-use crate::words::Request;
-use nms_codes::Code;
-use nms_show::{Ending, Form, Item, write_line, write_object};
-use nms_times::{Rising, TimeOfDay, Times, find_span, read_times, source_row};
-use std::alloc::Global;
-use std::io::Write;
-use std::rt::Files;
+ghost use Rattle.std.specs.Prelude.{◌<◌, ◌≤◌, IfOk};
 
-/// The place of the first time's word: the file of times stands before it.
-const FIRST: usize = 1;
+use crate::call::{Call, Host};
+use crate::fault::{About, Fault};
+use crate::request::{Version, Versions, Wanted, When, Within};
+use nms_codes::Code;
+use nms_show::{Ending, Item, write_line, write_object};
+use nms_times::{Rising, Span, Times, find_span, source_row};
+use std::io::Write;
 
 /// Finds versions by time, or the time of a version.
-pub(crate) fn serve_when<T, W: Write>(
-    rt: &T,
-    screen: Screen,
-    request: &Request<'_>,
+pub(crate) fn serve_when<T: Host, W: Write>(
+    call: &Call<'_, T>,
+    when: &When<'_>,
     answers: &mut W,
-) -> Result<Ending, Fault>
-where
-    T: AllocGlobal + Files,
-{
-    check_words(request)?;
-    let text = read_file(rt, word_at(request, 0), About::Word(0))?;
-    find_in(rt, screen, request, &text, answers)
-}
-
-/// Finds versions by time, or the time of a version, in a text of times.
-fn find_in<T, W: Write>(
-    rt: &T,
-    screen: Screen,
-    request: &Request<'_>,
-    text: &[u8],
-    answers: &mut W,
-) -> Result<Ending, Fault>
-where
-    T: AllocGlobal + Files,
-{
-    match times_of(rt.alloc(), text, About::Word(0)) {
-        Ok(times) => find_among(rt, screen, request, text, &times, answers),
-        Err(fault) => Err(fault),
-    }
-}
-
-/// Finds versions by time, or the time of a version, among times.
-fn find_among<T, W: Write>(
-    rt: &T,
-    screen: Screen,
-    request: &Request<'_>,
-    text: &[u8],
-    times: &Times,
-    answers: &mut W,
-) -> Result<Ending, Fault>
-where
-    T: AllocGlobal + Files,
-{
-    let form = form_of(screen, request);
-    match request.version {
-        Some(word) => {
-            let version = version_in(word, About::Version)?;
-            tell_time(rt.alloc(), text, times, version, form, answers)
-        }
-        None => {
-            let symbol = (symbol_of(request), About::Symbol);
-            let rising = rising_of(rt, request, symbol, times, About::Word(0))?;
-            tell_versions(rt.alloc(), request, rising, form, answers)
+) -> Result<Ending, Fault> {
+    let text = call.read(when.times)?;
+    let times = call.times_in(&text, when.times.about)?;
+    match &when.wanted {
+        Wanted::Time(version) => write_time(call, &text, &times, *version, answers),
+        Wanted::Versions(versions) => {
+            let rising = rising_of(call, versions.within, &times, when.times.about)?;
+            write_versions(call, versions, rising, answers)
         }
     }
 }
 
-/// Whether the words go together, and each has its form. This is tested before any file is opened.
-fn check_words(request: &Request<'_>) -> Result<(), Fault> {
-    let has_times = request.words.len() > FIRST;
-    let Some(version) = request.version else {
-        if !has_times {
-            return Err(Fault::usage(About::Nothing, "give a TIME, or --version"));
-        }
-        for place in FIRST..request.words.len() {
-            if TimeOfDay::parse(word_at(request, place).as_bytes()).is_none() {
-                return Err(no_time(About::Word(place)));
-            }
-        }
-        return check_symbol(request);
-    };
-    if has_times || request.before || request.symbols.is_some() || request.symbol.is_some() {
-        return Err(Fault::usage(
-            About::Nothing,
-            "--version goes with no TIME, nor with --before, --symbols or --symbol",
-        ));
-    }
-    version_in(version, About::Version)?;
-    Ok(())
-}
-
-/// Whether a file of symbols was given with a symbol, or neither.
-fn check_symbol(request: &Request<'_>) -> Result<(), Fault> {
-    if request.symbols.is_some() == request.symbol.is_some() {
-        Ok(())
-    } else {
-        Err(Fault::usage(About::Nothing, "--symbols and --symbol go together"))
-    }
-}
-
-/// The fault of a word that is no time.
-fn no_time(about: About) -> Fault {
-    Fault::usage(
-        about,
-        "a time is six digits HHMMSS, and up to nine after them",
-    )
-}
-
-/// The times given by a text.
-pub(crate) fn times_of(alloc: Global, text: &[u8], about: About) -> Result<Times, Fault> {
-    read_times(alloc, text).map_err(|fault| Fault::of_times(fault, about))
-}
-
-/// The times of the file that `--times` names, if it names one.
-pub(crate) fn given_times<T: AllocGlobal + Files>(
-    rt: &T,
-    request: &Request<'_>,
-) -> Result<Option<Times>, Fault> {
-    let Some(file) = request.times else {
-        return Ok(None);
-    };
-    let text = read_file(rt, file, About::Times)?;
-    Ok(Some(times_of(rt.alloc(), &text, About::Times)?))
-}
-
-/// The version that the first word names: a number, or `@` and a time, which is found among the given times. With a file of
-/// symbols it is found for the symbol that the word at a place names.
-pub(crate) fn version_among<T: AllocGlobal + Files>(
-    rt: &T,
-    request: &Request<'_>,
+/// The number of a version. One at a time is found among these times, and within a symbol if there is one.
+pub(crate) fn number_of<T: Host>(
+    call: &Call<'_, T>,
+    version: &Version,
+    within: Option<Within<'_>>,
     times: Option<&Times>,
-    symbol: usize,
 ) -> Result<u64, Fault> {
-    let Some(word) = word_at(request, 0).strip_prefix('@') else {
-        return version_of(request);
-    };
-    let Some(time) = TimeOfDay::parse(word.as_bytes()) else {
-        return Err(no_time(About::Word(0)));
-    };
-    let Some(times) = times else {
-        return Err(Fault::usage(About::Word(0), "a time in place of a version needs --times"));
-    };
-    if request.symbols.is_some() && !has_word(request, symbol) {
-        return Err(Fault::usage(About::Nothing, "--symbols needs SYM"));
+    match version {
+        Version::Number(number) => Ok(*number),
+        Version::At { time, about } => {
+            let Some(times) = times else {
+                return Err(Fault::usage(*about, "a time in place of a version needs --times"));
+            };
+            let rising = rising_of(call, within, times, About::Value("times"))?;
+            Ok(rising.version_at(*time))
+        }
     }
-    let symbol = (word_at(request, symbol), About::Word(symbol));
-    Ok(rising_of(rt, request, symbol, times, About::Times)?.version_at(time))
 }
 
-/// The symbol that `--symbol` names; nothing if it is not given.
-fn symbol_of<'a>(request: &Request<'a>) -> &'a str {
-    request.symbol.unwrap_or("")
-}
-
-/// The times in which versions are found: all of them, or those of a symbol, if a file of symbols is named.
-pub(crate) fn rising_of<'a, T: AllocGlobal + Files>(
-    rt: &T,
-    request: &Request<'_>,
-    symbol: (&str, About),
+/// The times in which versions are found: all of them, or those of a symbol.
+fn rising_of<'a, T: Host>(
+    call: &Call<'_, T>,
+    within: Option<Within<'_>>,
     times: &'a Times,
     about: About,
 ) -> Result<Rising<'a>, Fault> {
-    let found = match request.symbols {
+    let found = match within {
         None => times.rising(),
-        Some(file) => {
-            let text = read_file(rt, file, About::Symbols)?;
-            match find_span(&text, symbol.0.as_bytes(), times.len()) {
-                Ok(Some(span)) => times.rising_between(span.before, span.last),
-                Ok(None) => {
-                    return Err(Fault::usage(
-                        symbol.1,
-                        "the file of symbols has no line of it; capitals count",
-                    ));
-                }
-                Err(fault) => return Err(Fault::of_times(fault, About::Symbols)),
-            }
+        Some(within) => {
+            let span = span_of(call, within, times.len())?;
+            times.rising_between(span.before, span.last)
         }
     };
     found.map_err(|fault| Fault::of_times(fault, about))
 }
 
-/// Writes the last version at or before each time that the words name.
-fn tell_versions<W: Write>(
-    alloc: Global,
-    request: &Request<'_>,
+/// The versions of a symbol among so many, by the file of symbols.
+pub(crate) fn span_of<T: Host>(
+    call: &Call<'_, T>,
+    within: Within<'_>,
+    versions: usize,
+) -> Result<Span, Fault>
+    ensures { IfOk result (λ span. (span.before < span.last) × (span.last ≤ versions)) }
+{
+    let text = call.read(within.symbols)?;
+    match find_span(&text, within.symbol.name.as_bytes(), versions) {
+        Ok(Some(span)) => Ok(span),
+        Ok(None) => Err(Fault::usage(
+            within.symbol.about,
+            "the file of symbols has no line of it; capitals count",
+        )),
+        Err(fault) => Err(Fault::of_times(fault, within.symbols.about)),
+    }
+}
+
+/// Writes the last version at or before each time.
+fn write_versions<T: Host, W: Write>(
+    call: &Call<'_, T>,
+    versions: &Versions<'_>,
     rising: Rising<'_>,
-    form: Form,
     answers: &mut W,
 ) -> Result<Ending, Fault> {
-    for place in FIRST..request.words.len() {
-        let Some(time) = TimeOfDay::parse(word_at(request, place).as_bytes()) else {
-            return Err(no_time(About::Word(place)));
-        };
-        let version = if request.before {
-            rising.version_before(time)
+    let form = call.form();
+    for time in &versions.times {
+        let version = if versions.before {
+            rising.version_before(*time)
         } else {
-            rising.version_at(time)
+            rising.version_at(*time)
         };
         let number = Item::Number(version);
         if form.is_json() {
@@ -209,10 +101,10 @@ fn tell_versions<W: Write>(
             let members = [
                 ("what", Item::Text("version")),
                 ("time", Item::Bytes(text.as_slice())),
-                ("before", Item::Flag(request.before)),
+                ("before", Item::Flag(versions.before)),
                 ("version", number),
             ];
-            write_object(alloc, answers, &members)?;
+            write_object(call.alloc(), answers, &members)?;
         } else {
             write_line(answers, form, &[number])?;
         }
@@ -221,17 +113,17 @@ fn tell_versions<W: Write>(
 }
 
 /// Writes the time of a version, and the row of its source, if the lines have rows.
-fn tell_time<W: Write>(
-    alloc: Global,
+fn write_time<T: Host, W: Write>(
+    call: &Call<'_, T>,
     text: &[u8],
     times: &Times,
     version: u64,
-    form: Form,
     answers: &mut W,
 ) -> Result<Ending, Fault> {
     if version > times.len() as u64 {
-        return Err(Fault::of(Code::A1, About::Version));
+        return Err(Fault::of(Code::A1, About::Value("version")));
     }
+    let form = call.form();
     let digits = times.time_of(version).map(|time| time.text());
     let time = match &digits {
         Some(digits) => Item::Bytes(digits.as_slice()),
@@ -249,7 +141,7 @@ fn tell_time<W: Write>(
             ("time", time),
             ("row", number),
         ];
-        write_object(alloc, answers, &members)?;
+        write_object(call.alloc(), answers, &members)?;
     } else {
         let comma = if row.is_some() { "," } else { "" };
         write_line(answers, form, &[time, Item::Text(comma), number])?;

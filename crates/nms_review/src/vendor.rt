@@ -1,31 +1,63 @@
-//! A vendor's file, opened.
-use crate::fault::Fault;
-use crate::importing::fault_in;
-use crate::screen::Screen;
-use crate::source::{Source, open_source};
-use crate::words::Request;
+//! A vendor's file, whose rows are read one after another, whatever becomes of them.
+use crate::call::{Call, Host};
+use crate::fault::{About, Fault};
+use crate::request::Path;
+use crate::source::Source;
 use csv::{ByteRecord, Reader};
-use nms_import::{FileForm, RowSource, next_row, open_rows};
-use std::rt::Files;
-use std::time::Clock;
+use nms_codes::Code;
+use nms_import::{FileForm, ImportFault, MapFault, RowSource, next_row, open_rows};
+use std::io::Read;
+use std::{io, str};
 
-/// Opens the vendor's file that a word names, and reads the names of its columns, if the form says that it has them.
-pub(crate) fn open_vendor<'a, T>(
-    rt: &'a T,
-    screen: Screen,
-    request: &Request<'_>,
-    place: usize,
+/// A vendor's file that is being read.
+#[derive(Drop)]
+pub(crate) struct Rows<'a, T, R> {
+    /// Its first row, if that names the columns; else it is empty.
+    pub(crate) names: ByteRecord,
+    /// The reader of the rows after that.
+    pub(crate) reader: Reader<RowSource<Source<'a, T, R>>>,
+}
+
+/// Opens a vendor's file.
+pub(crate) fn open_vendor<'a, T: Host>(
+    call: &Call<'a, T>,
+    file: Path<'_>,
     form: FileForm,
-    names: &mut ByteRecord,
-) -> Result<Reader<RowSource<Source<'a, T, T::File>>>, Fault>
-where
-    T: AllocGlobal + Clock + Eprint + Files,
-{
-    let source = open_source(rt, screen, request, place)?;
-    let mut reader = open_rows(rt.alloc(), form.delimiter, form.quotes, source);
-    names.clear();
+) -> Result<Rows<'a, T, T::File>, Fault> {
+    let source = call.open(file)?;
+    let mut reader = open_rows(call.alloc(), form.delimiter, form.quotes, source);
+    let mut names = ByteRecord::new(call.alloc());
     if form.header {
-        next_row(&mut reader, names).map_err(|fault| fault_in(fault, place))?;
+        next_row(&mut reader, &mut names).map_err(|fault| fault_in(fault, file.about))?;
     }
-    Ok(reader)
+    Ok(Rows { names, reader })
+}
+
+impl<T: Host, R: Read + Drop> Rows<'_, T, R> {
+    /// Ends the reading: the line of progress is removed. Returns the system's reason, if the file could not be read to its end.
+    pub(crate) fn close(self) -> Option<io::Error> {
+        let Rows { names: _, reader } = self;
+        let mut source = reader.into_inner().into_source();
+        source.clear();
+        source.failed()
+    }
+}
+
+/// The text of a mapping.
+pub(crate) fn map_text(bytes: &[u8]) -> Result<&str, MapFault> {
+    match str::from_utf8(bytes) {
+        Ok(text) => Ok(text),
+        Err(_) => Err(MapFault::NotToml { line: 1 }),
+    }
+}
+
+/// A fault of an import, in the file of a word.
+pub(crate) fn fault_in(fault: ImportFault, about: About) -> Fault {
+    let code = match fault {
+        ImportFault::ReadFault => Code::E1,
+        ImportFault::WriteFault => Code::E2,
+        ImportFault::TooLong => Code::E3Rows,
+        ImportFault::NoMemory => Code::E4,
+    };
+    Fault::of(code, about)
 }

@@ -7,11 +7,12 @@ use Rattle.nms_quote.specs.Tape.{Tape, version}
 use Rattle.nms_quote.specs.declared.side_quote.Side.{Side}
 use Rattle.nms_quote.specs.declared.side_quote.Side.TheVariants.{Bid, Offer}
 use Rattle.nms_board.specs.Cells.{Board, StandsFor}
-use Rattle.nms_board.specs.Ranking.{ranked}
+use Rattle.nms_board.specs.Ranking.{ranked, ranked_at}
 use Rattle.nms_board.specs.View.{Seen, rows_on, view_of}
 use Rattle.nms_board.specs.declared.row.Row.{Row}
 use Rattle.nms_rules.specs.Through.{is_through}
 use Rattle.nms_trades.specs.declared.execution.Execution.{Execution}
+use Rattle.nms_trades.specs.declared.finding.Best.{Best}
 use Rattle.nms_trades.specs.declared.finding.Finding.{Finding}
 
 -- the price in 1/10,000 dollar that decides for a price in 1/1,000,000: the next one below for bids, the next above for offers
@@ -42,10 +43,16 @@ is_above (Some bid) (Some offer) = nat_lt offer.price bid.price
 abbrev pub is_crossed : List Row → List Row → Bool
 is_crossed bids offers = is_above (best_protected bids) (best_protected offers)
 
+-- the best bid and the best offer of what is seen: the quotations that rank first, protected or not (17 CFR 242.600, "national best
+-- bid and national best offer")
+abbrev pub best_in : Seen → Best
+best_in seen = record { bid = ranked_at Bid seen.bids 0; offer = ranked_at Offer seen.offers 0 }
+
 -- what is found of an execution at a price, on what is seen
 pub record IsFoundOn (seen : Seen) (millionths : ℕ) (finding : Finding) : Type 0 where
   pub passed : finding.passed.items ≡ passed_at seen millionths
   pub crossed : finding.crossed ≡ is_crossed (ranked Bid seen.bids) (ranked Offer seen.offers)
+  pub best : finding.best ≡ best_in seen
 
 -- on the version of the changes that it names
 abbrev pub IsFound : Sizes → Tape → Execution → Finding → Type 0

@@ -6,6 +6,16 @@ use crate::standing::Standing;
 use nms_board::Row;
 use nms_quote::Side;
 
+/// The best bid and the best offer of an execution's version in its symbol (17 CFR 242.600, "national best bid and national best
+/// offer"), `None` if a side has no quotation. A best quotation need not be protected.
+#[derive(Clone, Copy)]
+pub struct Best {
+    /// The bid that ranks first.
+    pub bid: Option<Row>,
+    /// The offer that ranks first.
+    pub offer: Option<Row>,
+}
+
 /// What is found of an execution on its version.
 #[derive(Drop)]
 pub struct Finding {
@@ -13,6 +23,8 @@ pub struct Finding {
     pub passed: Vec<(Side, Row)>,
     /// Whether the best protected bid was above the best protected offer (17 CFR 242.611(b)(4)).
     pub crossed: bool,
+    /// The best quotations of its version.
+    pub best: Best,
     /// Whether it trades through on the versions of its window; without one, on its version.
     pub standing: Standing,
     /// Of each of the quotations, in their order, whether it flickered: within one second before, its participant's protected

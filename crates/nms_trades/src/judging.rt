@@ -9,13 +9,13 @@ ghost use Rattle.nms_quote.specs.declared.TheConstants.{MOST_CHANGES};
 ghost use Rattle.nms_rules.specs.Through.{is_through};
 ghost use Rattle.nms_trades.specs.Around.{own_standing};
 ghost use Rattle.nms_trades.specs.Found.{IsJudged, IsReady, IsStanding, IsWeighed};
-ghost use Rattle.nms_trades.specs.Judged.{GoesAlong, IsFoundOn, whole_price};
+ghost use Rattle.nms_trades.specs.Judged.{GoesAlong, IsFoundOn, best_in, whole_price};
 ghost use Rattle.nms_trades.specs.Reading.{IsOn};
 ghost use Rattle.nms_trades.specs.Turns.{AreAnswered, HaveTurns, IsAnswered};
 ghost use Rattle.nms_trades.specs.declared.execution.Execution.{Execution};
 
 use crate::execution::Execution;
-use crate::finding::Finding;
+use crate::finding::{Best, Finding};
 use crate::flickering::judge_flickers;
 use crate::limits::{is_crossed, is_through, rows_ranked, whole_price};
 use crate::order::{Turn, turns_of};
@@ -130,9 +130,20 @@ fn find_on(alloc: Global, view: &View, millionths: u64) -> Result<Finding, Alloc
     Ok(Finding {
         passed,
         crossed,
+        best: best_in(view),
         standing,
         flickers: Vec::new(alloc),
     })
+}
+
+/// The best quotations of what is seen.
+fn best_in(view: &View) -> Best
+    ensures { result ≡ best_in view.now }
+{
+    Best {
+        bid: view.ranked(Side::Bid, 0),
+        offer: view.ranked(Side::Offer, 0),
+    }
 }
 
 /// Adds the rows of a side that a price trades through.

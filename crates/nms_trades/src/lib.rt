@@ -42,7 +42,7 @@ pub use claims::Claims;
 pub use clock::Timing;
 pub use execution::{Deal, Execution};
 pub use execution_file::{Records, Refusal};
-pub use finding::Finding;
+pub use finding::{Best, Finding};
 pub use judging::judge_all;
 pub use laws::{
     a_clean_one_was_quoted, a_whole_price_decides, a_window_is_all_or_none, one_shard_judges,

@@ -196,7 +196,7 @@ fn write_object_of<W: Write>(
 ) -> Result<(), ShowFault> {
     match finding.standing {
         Standing::Clean | Standing::Unquoted => {
-            write_quiet(alloc, answers, text, roster, execution, finding.standing)
+            write_quiet(alloc, answers, text, roster, execution, finding)
         }
         Standing::Perhaps | Standing::Through => {
             let sums = sums_of(execution, finding);

@@ -46,7 +46,7 @@ pub(crate) fn write_quiet<W: Write>(
     text: &mut Vec<u8>,
     roster: &Roster,
     execution: &Execution,
-    standing: Standing,
+    finding: &Finding,
 ) -> Result<(), ShowFault>
     ensures { Writes IsSafe (W.contents answers.old) (W.contents answers.new) result }
 {
@@ -55,29 +55,25 @@ pub(crate) fn write_quiet<W: Write>(
         return Err(ShowFault::NoMemory);
     };
     let (price, time) = text.split_at(cut.min(text.len()));
-    write_own(
-        alloc,
-        answers,
-        what_of(standing),
-        roster,
-        execution,
-        behind_comma(price),
-        time,
-    )
+    let price = behind_comma(price);
+    write_own(alloc, answers, roster, execution, finding, price, time)
 }
 
 /// Writes what an execution that traded through nothing says itself, with these texts.
 fn write_own<'a, W: Write>(
     alloc: Global,
     answers: &mut W,
-    what: &'a str,
     roster: &'a Roster,
     execution: &'a Execution,
+    finding: &Finding,
     price: &'a [u8],
     time: &'a [u8],
 ) -> Result<(), ShowFault>
-    ensures { is_plain what.now ≡ true → Writes IsSafe (W.contents answers.old) (W.contents answers.new) result }
+    ensures { Writes IsSafe (W.contents answers.old) (W.contents answers.new) result }
 {
+    let what = what_of(finding.standing);
+    let bid = best_items(&finding.best.bid);
+    let offer = best_items(&finding.best.offer);
     show_object(
         alloc,
         answers,
@@ -95,6 +91,10 @@ fn write_own<'a, W: Write>(
             ("side", deal_item(execution)),
             ("participant", part_item(roster, execution)),
             ("time", time_item(time)),
+            ("bid", bid.0),
+            ("bid_shares", bid.1),
+            ("offer", offer.0),
+            ("offer_shares", offer.1),
         ],
     )
 }
@@ -160,6 +160,17 @@ fn time_item(digits: &[u8]) -> Item<'_>
     }
 }
 
+/// The price of a side's best quotation and its displayed shares; nothing if it has none.
+fn best_items(best: &Option<Row>) -> (Item<'static>, Item<'static>)
+    ensures price { is_own_plain result.0 ≡ true }
+    ensures shares { is_own_plain result.1 ≡ true }
+{
+    match best {
+        Some(row) => (Item::of_price(row.price), Item::Number(u64::from(row.size))),
+        None => (Item::Absent, Item::Absent),
+    }
+}
+
 /// Writes that an execution traded through, and the rows that are left.
 pub(crate) fn write_through<W: Write>(
     alloc: Global,
@@ -185,8 +196,7 @@ pub(crate) fn write_through<W: Write>(
         time,
         causes,
     };
-    let what = what_of(finding.standing);
-    write_head(alloc, answers, what, roster, execution, sums, &texts)?;
+    write_head(alloc, answers, roster, execution, finding, sums, &texts)?;
     write_rows(alloc, answers, text, roster, execution, finding)
 }
 
@@ -245,14 +255,17 @@ struct Cuts {
 fn write_head<'a, W: Write>(
     alloc: Global,
     answers: &mut W,
-    what: &'a str,
     roster: &'a Roster,
     execution: &'a Execution,
+    finding: &Finding,
     sums: &Sums,
     texts: &Texts<'a>,
 ) -> Result<(), ShowFault>
-    ensures { is_plain what.now ≡ true → Writes IsSafe (W.contents answers.old) (W.contents answers.new) result }
+    ensures { Writes IsSafe (W.contents answers.old) (W.contents answers.new) result }
 {
+    let what = what_of(finding.standing);
+    let bid = best_items(&finding.best.bid);
+    let offer = best_items(&finding.best.offer);
     show_object(
         alloc,
         answers,
@@ -274,6 +287,10 @@ fn write_head<'a, W: Write>(
             ("side", deal_item(execution)),
             ("participant", part_item(roster, execution)),
             ("time", time_item(texts.time)),
+            ("bid", bid.0),
+            ("bid_shares", bid.1),
+            ("offer", offer.0),
+            ("offer_shares", offer.1),
         ],
     )
 }

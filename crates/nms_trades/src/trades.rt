@@ -89,8 +89,8 @@ fn judge_source<E: Read + Drop, W: Write>(
     }
 }
 
-/// Reads all executions of a file, at most 10,000,000, on that many changes, whose times find the versions of those that have a
-/// time. A record that is refused does not stop the others. Each record of the file stands among the executions or the refused
+/// Reads all executions of a file, at most 10,000,000, on a number of changes, whose times find the versions of those that have
+/// a time. A record that is refused does not stop the others. Each record of the file stands among the executions or the refused
 /// records, with its number.
 pub fn read_timed<R: Read + Drop>(
     alloc: Global,

@@ -9,3 +9,4 @@ mod LineFacts
 mod PieceFacts
 mod RepeatLemmas
 mod ThroughLemmas
+mod ListedLemmas

@@ -15,3 +15,4 @@ pub mod Faults
 pub mod LegPlaces
 pub mod Pieces
 pub mod Verdicts
+pub mod Listed

@@ -1,7 +1,8 @@
 //! Plans judged on the versions that they name, by one board that is moved forward: `specs/Verdicts`.
-ghost use Rattle.std.specs.Prelude.{◌≡◌, ◌≤◌, All, IfOk, OnOk, length, true};
+ghost use Rattle.std.specs.Prelude.{◌≡◌, ◌≤◌, All, IfOk, OnOk, false, length, true};
 ghost use Rattle.nms_quote.specs.Roster.{holds, sizes_of};
 ghost use Rattle.nms_quote.specs.declared.TheConstants.{MOST_CHANGES};
+ghost use Rattle.nms_verdicts.specs.Listed.{is_beyond};
 ghost use Rattle.nms_verdicts.specs.Verdicts.{IsAt, IsVerdict, IsVerdictOn};
 
 use crate::plan_places::doubt_place;
@@ -27,6 +28,7 @@ pub(crate) fn judge(
     requires few { length changes.now ≤ MOST_CHANGES }
     requires at { IsAt (sizes_of setup.now.roster) changes.now board.old }
     ensures at { IsAt (sizes_of setup.now.roster) changes.now board.new }
+    ensures moved { IfOk result (λ verdict. is_beyond verdict ≡ false → board.new.applied ≡ plan.now.version) }
     ensures judged { IfOk result (IsVerdict setup.now changes.now plan.now certificate.now.items) }
 {
     if plan.version > changes.len() as u64 {

@@ -9,6 +9,7 @@ mod judging;
 mod names;
 mod pieces;
 mod plan_places;
+mod plan_report;
 mod plan_telling;
 mod rows;
 mod telling;
@@ -17,5 +18,7 @@ mod verdict_fault;
 mod why;
 
 pub use checking::check_answers;
+pub use plan_report::{Quotation, Said, report_plan};
+pub use rows::Note;
 pub use verdict_fault::VerdictFault;
 pub use why::explain_why;

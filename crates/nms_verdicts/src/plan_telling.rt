@@ -4,7 +4,7 @@ use crate::names::{code_item, name_of, push_named, quotation_of, symbol_of, verb
 use crate::plan_places::{BreachPlace, DoubtPlace, PassedOver};
 use crate::telling::{Heading, tell};
 use crate::verdict::Verdict;
-use nms_quote::{Plan, Roster};
+use nms_quote::{Leg, Plan, Roster};
 use nms_show::{Form, Item, ShowFault};
 use nms_times::Times;
 use std::alloc::{AllocError, Global};
@@ -23,6 +23,17 @@ pub(crate) struct PlanNumber<'a> {
     pub(crate) times: Option<&'a Times>,
 }
 
+/// Which lines are written of a plan and its verdict.
+#[derive(Clone, Copy)]
+pub(crate) enum Part {
+    /// All of them.
+    Whole,
+    /// Those on its order, and how much it fills.
+    Order,
+    /// Those on what is doubtful.
+    Doubt,
+}
+
 /// Reports a plan and its verdict: as a row under headings with the doubt, or without headings as sentences.
 pub(crate) fn tell_plan<W: Write>(
     alloc: Global,
@@ -34,6 +45,28 @@ pub(crate) fn tell_plan<W: Write>(
     plan: &Plan,
     verdict: &Verdict,
 ) -> Result<(), ShowFault> {
+    let part = if headings.is_empty() {
+        Part::Whole
+    } else {
+        Part::Doubt
+    };
+    tell_part(
+        alloc, answers, form, headings, roster, number, plan, verdict, part,
+    )
+}
+
+/// Reports lines of a plan and its verdict.
+pub(crate) fn tell_part<W: Write>(
+    alloc: Global,
+    answers: &mut W,
+    form: Form,
+    headings: &[Heading],
+    roster: &Roster,
+    number: PlanNumber<'_>,
+    plan: &Plan,
+    verdict: &Verdict,
+    part: Part,
+) -> Result<(), ShowFault> {
     let mut names = Vec::new(alloc);
     if push_named(&mut names, roster, &plan.order).is_err() {
         return Err(ShowFault::NoMemory);
@@ -43,23 +76,29 @@ pub(crate) fn tell_plan<W: Write>(
         return Err(ShowFault::NoMemory);
     }
     tell_named(
-        alloc, answers, form, headings, roster, number, plan, verdict, &names, &time,
+        alloc, answers, form, headings, roster, number, plan, verdict, &names, &time, part,
     )?;
-    tell_passed(alloc, answers, form, roster, number, plan, verdict)
+    match part {
+        Part::Order => Ok(()),
+        Part::Whole | Part::Doubt => {
+            tell_passed(alloc, answers, form, roster, number, plan, verdict)
+        }
+    }
 }
 
-/// As `tell_plan`, but without the quotations that are traded through, and with the names and the time given.
-fn tell_named<W: Write>(
+/// As `tell_part`, but without the quotations that are traded through, and with the names and the time given.
+fn tell_named<'x, W: Write>(
     alloc: Global,
     answers: &mut W,
     form: Form,
     headings: &[Heading],
-    roster: &Roster,
-    number: PlanNumber<'_>,
+    roster: &'x Roster,
+    number: PlanNumber<'x>,
     plan: &Plan,
     verdict: &Verdict,
-    names: &[u8],
-    time: &[u8],
+    names: &'x [u8],
+    time: &'x [u8],
+    part: Part,
 ) -> Result<(), ShowFault> {
     let finding = finding_of(verdict, roster, plan);
     let sentences = sentences_of(plan, verdict);
@@ -76,10 +115,10 @@ fn tell_named<W: Write>(
         finding.place,
         finding.words,
     ];
-    let lines = if headings.is_empty() {
-        &all[..]
-    } else {
-        &all[5..]
+    let (first, end) = match part {
+        Part::Whole => (0, 7),
+        Part::Order => (0, 4),
+        Part::Doubt => (5, 7),
     };
     // Without times there is no key for one.
     let known = if number.times.is_some() { 26 } else { 25 };
@@ -88,7 +127,7 @@ fn tell_named<W: Write>(
         answers,
         form,
         headings,
-        lines,
+        &all[first..end],
         &facts_of(roster, number, plan, verdict, &finding, names, time)[..known],
     )
 }
@@ -218,8 +257,36 @@ fn tell_passed<W: Write>(
     Ok(())
 }
 
+/// Reports the legs of a plan, only as objects: people see in the table of quotations what is sent where.
+pub(crate) fn tell_legs<W: Write>(
+    alloc: Global,
+    answers: &mut W,
+    form: Form,
+    roster: &Roster,
+    legs: &[Leg],
+) -> Result<(), ShowFault> {
+    for place in 0..legs.len() {
+        let leg = legs[place];
+        tell(
+            alloc,
+            answers,
+            form,
+            &[],
+            &[],
+            &[
+                ("what", Item::Text("leg")),
+                ("leg", Item::Number(place as u64 + 1)),
+                ("participant", name_of(roster, leg.part)),
+                ("price", Item::of_price(leg.price)),
+                ("shares", Item::Number(u64::from(leg.shares.get()))),
+            ],
+        )?;
+    }
+    Ok(())
+}
+
 /// The quotations that a plan trades through.
-fn passed_in(verdict: &Verdict) -> &[PassedOver] {
+pub(crate) fn passed_in(verdict: &Verdict) -> &[PassedOver] {
     if let Verdict::Doubted {
         place: DoubtPlace::Breach(BreachPlace::TradedThrough { passed, .. }),
         ..

@@ -68,7 +68,7 @@ fn tell_row<W: Write>(
             ("state", state_of(row.protected)),
             ("unit_cost", Item::of_money(unit.cost)),
             ("sent", Item::Number(sent)),
-            ("note", Item::Text(note_of(plan, row, sent))),
+            ("note", Item::Text(note_of(plan, row, sent).words())),
         ],
     )
 }
@@ -83,7 +83,7 @@ fn state_of(protected: bool) -> Item<'static> {
 }
 
 /// The shares that legs send to a participant.
-fn sent_to(legs: &[Leg], part: Part) -> u64
+pub(crate) fn sent_to(legs: &[Leg], part: Part) -> u64
     requires { length legs.now ≤ 32 }
 {
     let mut sent: u64 = 0;
@@ -95,19 +95,56 @@ fn sent_to(legs: &[Leg], part: Part) -> u64
     sent
 }
 
-/// What a plan that sends that many shares to a quotation does with it, in a word or two.
-fn note_of(plan: &Plan, row: &Row, sent: u64) -> &'static str {
+/// What a plan does with a quotation.
+#[derive(Clone, Copy)]
+pub enum Note {
+    /// It has to be swept, and is.
+    Swept,
+    /// It has to be swept, and is not.
+    NotSwept,
+    /// All of it is taken.
+    TakenInFull,
+    /// Some of it is taken.
+    TakenInPart,
+    /// Nothing of it is taken.
+    Left,
+    /// The order may not trade with it: its price is beyond the limit.
+    BeyondLimit,
+    /// The order may not trade with it: self-help was declared.
+    SelfHelp,
+    /// The order may not trade with it: it is manual.
+    Manual,
+}
+
+impl Note {
+    /// Its words.
+    pub fn words(self) -> &'static str {
+        match self {
+            Note::Swept => "must be swept, and is",
+            Note::NotSwept => "must be swept, and is not",
+            Note::TakenInFull => "taken in full",
+            Note::TakenInPart => "taken in part",
+            Note::Left => "left",
+            Note::BeyondLimit => "beyond the limit",
+            Note::SelfHelp => "passed over: self-help",
+            Note::Manual => "manual, not allowed",
+        }
+    }
+}
+
+/// What a plan that sends n shares to a quotation does with it.
+pub(crate) fn note_of(plan: &Plan, row: &Row, sent: u64) -> Note {
     if !is_usable(&plan.order, row) {
         return why_unusable(plan, row);
     }
     let must = row.protected && trades_beyond(plan.order.side, plan.legs.as_slice(), row.price);
     let full = sent >= u64::from(row.size);
     match (must, full, sent) {
-        (true, true, _) => "must be swept, and is",
-        (true, false, _) => "must be swept, and is not",
-        (false, true, _) => "taken in full",
-        (false, false, 0) => "left",
-        (false, false, _) => "taken in part",
+        (true, true, _) => Note::Swept,
+        (true, false, _) => Note::NotSwept,
+        (false, true, _) => Note::TakenInFull,
+        (false, false, 0) => Note::Left,
+        (false, false, _) => Note::TakenInPart,
     }
 }
 
@@ -117,13 +154,13 @@ fn trades_beyond(side: OrderSide, legs: &[Leg], price: Price) -> bool {
 }
 
 /// Why a plan's order may not trade with a quotation.
-fn why_unusable(plan: &Plan, row: &Row) -> &'static str {
+fn why_unusable(plan: &Plan, row: &Row) -> Note {
     let order = &plan.order;
     if is_better(order.side, order.limit, row.price) {
-        "beyond the limit"
+        Note::BeyondLimit
     } else if order.self_help.has(row.part) {
-        "passed over: self-help"
+        Note::SelfHelp
     } else {
-        "manual, not allowed"
+        Note::Manual
     }
 }

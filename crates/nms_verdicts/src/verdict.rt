@@ -1,6 +1,7 @@
 //! The result of judging a plan.
 ghost use Rattle.std.specs.Prelude.{◌≡◌};
 ghost use Rattle.nms_verdicts.specs.Explained.{ending_of};
+ghost use Rattle.nms_verdicts.specs.Listed.{is_beyond};
 
 use crate::plan_places::DoubtPlace;
 use nms_cert::Doubt;
@@ -51,6 +52,13 @@ impl Verdict {
     /// Whether it is confirmed.
     pub(crate) fn is_confirmed(&self) -> bool {
         matches!(self, Verdict::Confirmed)
+    }
+
+    /// Whether its version has more changes than there are.
+    pub(crate) fn is_beyond(&self) -> bool
+        ensures { result ≡ is_beyond self.now }
+    {
+        matches!(self, Verdict::Beyond { .. })
     }
 
     /// How a request for it ends: done if it is confirmed, else doubted.

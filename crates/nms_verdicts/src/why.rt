@@ -6,7 +6,8 @@ ghost use Rattle.nms_verdicts.specs.Explained.{EndsBy, IsExplained, IsExplainedO
 
 use crate::cuts::tell_cuts;
 use crate::judging::judge;
-use crate::plan_telling::{PlanNumber, tell_plan};
+use crate::plan_report::{said_of, tell_said};
+use crate::plan_telling::{PlanNumber, tell_legs, tell_plan};
 use crate::rows::tell_rows;
 use crate::telling::{tell, tell_line};
 use crate::verdict::Verdict;
@@ -125,7 +126,8 @@ fn explain_plan<W: Write>(
     }
 }
 
-/// Reports a plan and its verdict, and the view of its version if the changes have it.
+/// Reports a plan, its verdict and its legs, and the view of its version if the changes have it. Objects also have the lines
+/// that are written for people, so that a program need not read both forms.
 fn tell_judged<W: Write>(
     alloc: Global,
     setup: &Setup,
@@ -154,8 +156,9 @@ fn tell_judged<W: Write>(
         plan,
         verdict,
     )?;
+    tell_legs(alloc, answers, form, setup.roster(), plan.legs.as_slice())?;
     match verdict {
-        Verdict::Beyond { .. } => Ok(()),
+        Verdict::Beyond { .. } => {}
         Verdict::Confirmed | Verdict::Doubted { .. } => tell_seen(
             alloc,
             setup,
@@ -165,8 +168,13 @@ fn tell_judged<W: Write>(
             verdict,
             form,
             answers,
-        ),
+        )?,
     }
+    if !form.is_json() {
+        return Ok(());
+    }
+    let said = said_of(alloc, setup, view, number, plan, certificate, verdict)?;
+    tell_said(alloc, answers, form, &said)
 }
 
 /// Reports the quotations, the shares that can be filled, each cut, and what follows for a plan that is confirmed.
@@ -181,6 +189,29 @@ fn tell_seen<W: Write>(
     answers: &mut W,
 ) -> Result<(), ShowFault> {
     tell_rows(alloc, answers, form, setup, view, plan)?;
+    tell_certificate(
+        alloc,
+        setup,
+        view,
+        plan,
+        certificate,
+        verdict,
+        form,
+        answers,
+    )
+}
+
+/// Reports the shares that can be filled, each cut, and what follows for a plan that is confirmed.
+pub(crate) fn tell_certificate<W: Write>(
+    alloc: Global,
+    setup: &Setup,
+    view: &View,
+    plan: &Plan,
+    certificate: &Certificate,
+    verdict: &Verdict,
+    form: Form,
+    answers: &mut W,
+) -> Result<(), ShowFault> {
     let rows = usable_rows(view, &plan.order, setup.fees());
     let most = fillable(rows.as_slice(), plan.order.shares);
     tell_most(alloc, answers, form, plan, most)?;

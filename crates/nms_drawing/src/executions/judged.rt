@@ -1,16 +1,13 @@
 //! Executions of a file, each with its finding.
-ghost use Rattle.std.specs.Prelude.{◌≡◌, ◌≤◌, All, IfErr, IfOk, length, option_copied, true};
+ghost use Rattle.std.specs.Prelude.{◌≡◌, ◌<◌, ◌≤◌, All, IfErr, IfOk, length, option_copied, true};
 ghost use Rattle.nms_quote.specs.Roster.{holds, sizes_of};
 ghost use Rattle.nms_quote.specs.declared.TheConstants.{MOST_CHANGES};
 ghost use Rattle.nms_trades.specs.Files.{AreJudged};
 ghost use Rattle.nms_drawing.specs.Pages.{IsJudgingFault};
 
-use crate::marks::Mark;
 use nms_fees::Setup;
 use nms_quote::Change;
-use nms_trades::{
-    Execution, Finding, Records, Standing, Timing, TradesFault, judge_all, read_timed,
-};
+use nms_trades::{Finding, Records, Timing, TradesFault, judge_all, read_timed};
 use std::alloc::Global;
 use std::io::Read;
 
@@ -32,6 +29,7 @@ pub(crate) fn judge_source<E: Read + Drop>(
     requires held { All (λ change. holds (sizes_of setup.now.roster) change ≡ true) changes.now }
     requires few { length changes.now ≤ MOST_CHANGES }
     ensures places { IfOk result (λ judged. length judged.findings.items ≡ length judged.records.executions.items) }
+    ensures symbols { IfOk result (λ judged. All (λ execution. execution.sym < length setup.now.roster.syms) judged.records.executions.items) }
     ensures judged { IfOk result (λ judged. AreJudged setup.now.roster changes.now (E.remaining source) judged.records.executions.items
         judged.records.refused.items judged.findings.items) }
     ensures refused { IfErr result (IsJudgingFault (option_copied timing.entry) (length changes.now) (E.remaining source)) }
@@ -43,16 +41,5 @@ pub(crate) fn judge_source<E: Read + Drop>(
     match judge_all(alloc, setup.roster(), changes, &records.executions) {
         Ok(findings) => Ok(Judged { records, findings }),
         Err(fault) => Err(TradesFault::Board(fault)),
-    }
-}
-
-/// An execution as it is marked in a picture.
-pub(crate) fn mark_of(execution: &Execution, finding: &Finding) -> Mark {
-    Mark {
-        number: execution.number,
-        version: execution.version,
-        time: execution.time,
-        millionths: execution.millionths,
-        through: finding.standing == Standing::Through,
     }
 }

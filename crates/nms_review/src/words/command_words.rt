@@ -1,6 +1,6 @@
-//! The words of the command line, read as a request.
+//! The words of the command line, read.
 use super::command_line::review_command;
-use super::request::Request;
+use super::given::Words;
 use super::subcommand::{Sub, WordForm};
 use super::words_fault::WordsFault;
 use clap::error::ErrorKind;
@@ -15,12 +15,9 @@ tip: give options after the subcommand: nms_review stream CHANGES --setup FILE
 /// Reads the words that follow the program's name: a subcommand, its own words and its options.
 ///
 /// `Parser` has the parser's text: a fault, or the help or the version that was asked for. `NoMemory` may replace any answer.
-pub(crate) fn read_words<'a>(
-    alloc: Global,
-    words: &'a [&'a str],
-) -> Result<Request<'a>, WordsFault> {
+pub(crate) fn read_words<'a>(alloc: Global, words: &'a [&'a str]) -> Result<Words<'a>, WordsFault> {
     match review_command(alloc)?.try_get_matches_from(words) {
-        Ok(matches) => Ok(request_in(alloc, &matches)?),
+        Ok(matches) => Ok(words_in(alloc, &matches)?),
         Err(error) => Err(fault_of(alloc, words, &error)),
     }
 }
@@ -53,69 +50,28 @@ fn is_option(word: &str) -> bool {
     word == "--json" || word == "--setup" || word.starts_with("--setup=")
 }
 
-/// The request that the matches hold. The parser takes no words without a subcommand.
-fn request_in<'a>(alloc: Global, matches: &ArgMatches<'a>) -> Result<Request<'a>, AllocError> {
+/// The words that the matches hold. The parser takes none without a subcommand.
+fn words_in<'a>(alloc: Global, matches: &ArgMatches<'a>) -> Result<Words<'a>, AllocError> {
     let Some((name, inner)) = matches.subcommand() else {
         return Err(AllocError);
     };
     let Some(command) = Sub::named(name) else {
         return Err(AllocError);
     };
-    match own_words(alloc, command, inner) {
-        Ok(words) => Ok(request_with(command, words, inner)),
-        Err(fault) => Err(fault),
-    }
-}
-
-/// The request of a subcommand with its own words, and the options that the matches hold.
-fn request_with<'a>(command: Sub, words: Vec<&'a str>, inner: &ArgMatches<'a>) -> Request<'a> {
-    Request {
+    let mut words = Words {
         command,
-        words,
-        setup: inner.get_str("setup"),
-        feed: inner.get_str("feed"),
-        plan: inner.get_str("plan"),
-        map: inner.get_str("map"),
-        out: inner.get_str("out"),
-        times: inner.get_str("times"),
-        symbols: inner.get_str("symbols"),
-        symbol: inner.get_str("symbol"),
-        version: inner.get_str("version"),
-        trades: inner.get_str("trades"),
-        from: inner.get_str("from"),
-        to: inner.get_str("to"),
-        html: inner.get_str("html"),
-        window: inner.get_str("window"),
-        own: is_flagged(inner, "own"),
-        rows: is_flagged(inner, "rows"),
-        shards: is_flagged(inner, "shards"),
-        before: is_flagged(inner, "before"),
-        json: is_flagged(inner, "json"),
-        table: is_flagged(inner, "table"),
-    }
-}
-
-/// Whether the matches hold the flag. The parser gives it the text `true` or `false`.
-fn is_flagged(matches: &ArgMatches<'_>, name: &str) -> bool {
-    matches.get_str(name) == Some("true")
-}
-
-/// The subcommand's own words, each that has a value.
-fn own_words<'a>(
-    alloc: Global,
-    command: Sub,
-    matches: &ArgMatches<'a>,
-) -> Result<Vec<&'a str>, AllocError> {
-    let mut words = Vec::new(alloc);
+        own: Vec::new(alloc),
+        options: Vec::new(alloc),
+    };
     for word in command.words() {
         if is_option_form(word.form) {
-            continue;
-        }
-        let Some(values) = matches.get_strs(word.name) else {
-            continue;
-        };
-        for value in values {
-            words.push(*value)?;
+            if let Some(value) = inner.get_str(word.name) {
+                words.options.push((word.name, value))?;
+            }
+        } else if let Some(values) = inner.get_strs(word.name) {
+            for value in values {
+                words.own.push(*value)?;
+            }
         }
     }
     Ok(words)

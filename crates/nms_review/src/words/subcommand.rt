@@ -30,9 +30,22 @@ pub(crate) enum Sub {
     Compare,
 }
 
-/// What kind of file is explained.
+/// What is explained.
 #[derive(Clone, Copy)]
 pub(crate) enum Kind {
+    /// A file of records.
+    Records(RecordKind),
+    /// A file that is read whole.
+    Text(TextKind),
+    /// A file of executions.
+    Executions,
+    /// A code, in the place of the file.
+    Code,
+}
+
+/// The kinds of files of records.
+#[derive(Clone, Copy)]
+pub(crate) enum RecordKind {
     /// A script.
     Script,
     /// A file of changes.
@@ -41,18 +54,19 @@ pub(crate) enum Kind {
     Orders,
     /// The file of one feed, which `--feed` names.
     Feed,
+}
+
+/// The kinds of files that are read whole.
+#[derive(Clone, Copy)]
+pub(crate) enum TextKind {
     /// The text of a plan and its certificate.
     Plan,
     /// A setup.
     Setup,
     /// A mapping of a vendor's files.
     Map,
-    /// A file of executions.
-    Executions,
     /// A file of times.
     Times,
-    /// A code, in the place of the file.
-    Code,
 }
 
 /// A word or an option of a subcommand, with its explanation in the help.
@@ -195,17 +209,29 @@ static OPENING: [Word; 3] = [
     SETUP,
 ];
 
-static STREAM: [Word; 5] = [
+static STREAM: [Word; 6] = [
     CHANGES,
     Word {
         name: "SYM",
         help: "The symbol; all of them if it is not given",
         form: WordForm::Optional,
     },
+    Word {
+        name: "boards",
+        help: "Prints each participant's quotations after every change that may alter them, with --json",
+        form: WordForm::Flag,
+    },
     TIMES,
     SETUP,
     JSON,
 ];
+
+/// The flag that leaves the boards out of a page.
+const BESTS: Word = Word {
+    name: "bests",
+    help: "The page has best quotations only, and no boards: it is less than half as long",
+    form: WordForm::Flag,
+};
 
 static CHECK: [Word; 5] = [
     CHANGES,
@@ -231,38 +257,39 @@ static WHY: [Word; 5] = [
     JSON,
 ];
 
-static DRAW: [Word; 10] = [
+static DRAW: [Word; 11] = [
     CHANGES,
     Word {
         name: "SYM",
-        help: "The symbol to draw",
+        help: "The symbol of the page",
         form: WordForm::Needed,
     },
     Word {
         name: "plan",
-        help: "The file of a plan, whose legs are drawn at its version",
+        help: "The file of a plan, which the page shows at its version",
         form: WordForm::Valued("PLAN"),
     },
     Word {
         name: "trades",
-        help: "The file of executions, drawn at their versions; with --times at their times",
+        help: "The file of executions, shown at their versions; with --times at their times",
         form: WordForm::Valued("EXECUTIONS"),
     },
     Word {
         name: "from",
-        help: "The first version drawn; or @ and a time, with --times",
+        help: "The first version of the page; or @ and a time, with --times",
         form: WordForm::Valued("VERSION"),
     },
     Word {
         name: "to",
-        help: "The last version drawn; or @ and a time, with --times",
+        help: "The last version of the page; or @ and a time, with --times",
         form: WordForm::Valued("VERSION"),
     },
     Word {
         name: "own",
-        help: "Counts the changes of this symbol alone",
+        help: "Counts versions, also with --times",
         form: WordForm::Flag,
     },
+    BESTS,
     TIMES,
     SYMBOLS,
     SETUP,
@@ -327,7 +354,7 @@ static WHEN: [Word; 7] = [
     JSON,
 ];
 
-static TRADES: [Word; 10] = [
+static TRADES: [Word; 11] = [
     CHANGES,
     Word {
         name: "EXECUTIONS",
@@ -341,9 +368,10 @@ static TRADES: [Word; 10] = [
     },
     Word {
         name: "html",
-        help: "Also writes a page for the file: the counts, and each execution that traded through with its picture",
+        help: "Also writes a page for the file: the days of its symbols, with each execution",
         form: WordForm::Valued("PAGE"),
     },
+    BESTS,
     Word {
         name: "window",
         help: "Judges each execution on all versions within that many nanoseconds of its time, with --times",
@@ -428,7 +456,7 @@ impl Sub {
             Sub::Check => "Judges every plan in what a script, a live run or `plan` answered",
             Sub::Why =>
                 "Says why a plan is as it is: its rows, what it takes, and what each cut shows",
-            Sub::Draw => "Draws a symbol's day as one SVG",
+            Sub::Draw => "Writes the page of a symbol's day, to open in a browser",
             Sub::Import => "Makes a file of changes of a vendor's files, by a mapping",
             Sub::When => "Finds versions by time, or the time of a version",
             Sub::Trades => "Says which executions traded through a protected quotation, and whose",
@@ -464,17 +492,25 @@ impl Kind {
     /// The kind that a word names.
     pub(crate) fn named(word: &str) -> Option<Kind> {
         match word {
-            "script" => Some(Kind::Script),
-            "changes" => Some(Kind::Changes),
-            "orders" => Some(Kind::Orders),
-            "feed" => Some(Kind::Feed),
-            "plan" => Some(Kind::Plan),
-            "setup" => Some(Kind::Setup),
-            "map" => Some(Kind::Map),
+            "script" => Some(Kind::Records(RecordKind::Script)),
+            "changes" => Some(Kind::Records(RecordKind::Changes)),
+            "orders" => Some(Kind::Records(RecordKind::Orders)),
+            "feed" => Some(Kind::Records(RecordKind::Feed)),
+            "plan" => Some(Kind::Text(TextKind::Plan)),
+            "setup" => Some(Kind::Text(TextKind::Setup)),
+            "map" => Some(Kind::Text(TextKind::Map)),
             "executions" => Some(Kind::Executions),
-            "times" => Some(Kind::Times),
+            "times" => Some(Kind::Text(TextKind::Times)),
             "code" => Some(Kind::Code),
             _ => None,
+        }
+    }
+
+    /// Whether it is explained under a setup.
+    pub(crate) fn is_under_setup(self) -> bool {
+        match self {
+            Kind::Records(_) | Kind::Text(TextKind::Plan) | Kind::Executions => true,
+            Kind::Text(TextKind::Setup | TextKind::Map | TextKind::Times) | Kind::Code => false,
         }
     }
 }

@@ -1,17 +1,23 @@
 -- `draw_changes`: what the picture of the file's tape promises, and its faults, by `file_fits` and `file_faults`.
 use Rattle.std.proofs.Common.{option_copied}
 use Rattle.nms_drawing.proofs.DayFacts.{file_faults, file_fits}
+use Rattle.nms_drawing.proofs.DrawnFacts.{file_page}
 use Rattle.nms_drawing.proofs.drawing.draw_changes.Goals as goal
 
 pub returns-in-Ok : goal.returns-in-Ok
 returns-in-Ok g c =
     let frame = c.args.frame.now in
     let times = option_copied frame.times in
-    let bytes = g.R.Read.remaining c.args.source in record {
+    let plan = option_copied c.args.plan in
+    let bytes = g.R.Read.remaining c.args.source in
+    record {
+      page = file_page c.draw_day.result c.args.setup.now bytes frame c.args.sym plan (g.W.Write.contents c.args.answers.now)
+          (g.W.Write.contents c.draw_day.new.answers) c.in-Ok.changes.items c.deref.result.now c.in-Ok.ensures.tape c.deref.ensures.value
+          c.draw_day.ensures.page;
       drawn = file_fits c.draw_day.result c.args.setup.now bytes frame.from frame.to frame.own times c.in-Ok.changes.items c.deref.result.now
           c.in-Ok.ensures.tape c.deref.ensures.value c.draw_day.ensures.drawn;
       plan = c.draw_day.ensures.plan;
-      refused = file_faults c.draw_day.result c.args.setup.now bytes frame.from frame.to frame.own times (option_copied c.args.plan)
+      refused = file_faults c.draw_day.result c.args.setup.now bytes frame.from frame.to frame.own times plan
           c.in-Ok.changes.items c.deref.result.now c.in-Ok.ensures.tape c.deref.ensures.value c.draw_day.ensures.refused;
       unwritten = c.draw_day.ensures.unwritten;
     }

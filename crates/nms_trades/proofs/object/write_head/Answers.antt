@@ -1,6 +1,15 @@
--- `write_head`: the keys and the word are printable.
+-- `write_head`: the keys and the words are printable.
 use Rattle.std.proofs.Common.{refl}
 use Rattle.nms_trades.proofs.object.write_head.Goals as goal
 
 pub returns : goal.returns
-returns g c = λ own. c.show_object.ensures (rw (own, c.deal_item.ensures, c.part_item.ensures, c.time_item.ensures) refl)
+returns g c = c.show_object.ensures (rw (
+  c.what_of-what.ensures,
+  c.deal_item.ensures,
+  c.part_item.ensures,
+  c.time_item.ensures,
+  c.best_items-bid.ensures.price,
+  c.best_items-bid.ensures.shares,
+  c.best_items-offer.ensures.price,
+  c.best_items-offer.ensures.shares,
+) refl)

@@ -1,0 +1,278 @@
+//! Each participant's quotations along the changes, as JSON objects: after each change, those that it may alter.
+ghost use Rattle.std.specs.Prelude.{◌≡◌, ◌+◌, ◌<◌, ◌≤◌, All, IfErr, false, length, true};
+ghost use Rattle.std.specs.List.{list_all};
+ghost use Rattle.nms_quote.specs.Roster.{holds, sizes_of};
+ghost use Rattle.nms_quote.specs.declared.TheConstants.{MOST_CHANGES};
+ghost use Rattle.nms_show.specs.Plain.{is_own_plain, is_plain_member};
+ghost use Rattle.nms_show.specs.Safe.{IsSafe};
+ghost use Rattle.nms_show.specs.Written.{Writes};
+ghost use Rattle.nms_drawing.specs.Faults.{is_of_input};
+
+use crate::drawing_fault::DrawingFault;
+use nms_board::{Boards, Row};
+use nms_lines::{name_of_part, name_of_sym};
+use nms_quote::{Change, Part, Roster, Side, Sym};
+use nms_show::{Item, ShowFault, write_object};
+use nms_times::{TimeOfDay, Times};
+use std::alloc::Global;
+use std::io::Write;
+
+/// How many members an object has, with a time.
+const MEMBERS: usize = 12;
+
+/// Whose quotations are written, and with which times.
+#[derive(Clone, Copy)]
+pub(crate) struct Wanted<'a> {
+    pub(crate) alloc: Global,
+    pub(crate) roster: &'a Roster,
+    pub(crate) times: Option<&'a Times>,
+    /// Without one all symbols are written.
+    pub(crate) sym: Option<Sym>,
+}
+
+/// A participant's quotations in a symbol at a version.
+#[derive(Clone, Copy)]
+struct Quotation {
+    version: u64,
+    sym: Sym,
+    part: Part,
+    bid: Option<Row>,
+    offer: Option<Row>,
+}
+
+/// Writes the quotations of changes: after each change, those that it may alter.
+pub(crate) fn write_boards<W: Write>(
+    wanted: &Wanted<'_>,
+    changes: &[Change],
+    answers: &mut W,
+) -> Result<(), DrawingFault>
+    requires held { All (λ change. holds (sizes_of wanted.now.roster.now) change ≡ true) changes.now }
+    requires few { length changes.now ≤ MOST_CHANGES }
+    ensures safe { Writes IsSafe (W.contents answers.old) (W.contents answers.new) result }
+    ensures begun { IfErr result (λ fault. is_of_input fault ≡ false) }
+{
+    let mut board = match Boards::new(wanted.alloc, wanted.roster) {
+        Ok(board) => board,
+        Err(fault) => return Err(DrawingFault::Board(fault)),
+    };
+    match write_changes(wanted, &mut board, changes, answers) {
+        Ok(()) => Ok(()),
+        Err(fault) => Err(DrawingFault::from(fault)),
+    }
+}
+
+/// Applies changes to a board. After each one it writes the quotations that the change may alter.
+fn write_changes<W: Write>(
+    wanted: &Wanted<'_>,
+    board: &mut Boards,
+    changes: &[Change],
+    answers: &mut W,
+) -> Result<(), ShowFault>
+    requires sizes { board.old.sizes ≡ sizes_of wanted.now.roster.now }
+    requires held { All (λ change. holds board.old.sizes change ≡ true) changes.now }
+    requires room { board.old.applied + length changes.now ≤ MOST_CHANGES }
+    ensures { Writes IsSafe (W.contents answers.old) (W.contents answers.new) result }
+{
+    for change in changes {
+        board.apply(*change);
+        write_change(wanted, board, change, answers)?;
+    }
+    Ok(())
+}
+
+/// Writes the quotations that the last change of a board may alter: a withdrawal may do so in every symbol.
+fn write_change<W: Write>(
+    wanted: &Wanted<'_>,
+    board: &Boards,
+    change: &Change,
+    answers: &mut W,
+) -> Result<(), ShowFault>
+    requires sizes { board.now.sizes ≡ sizes_of wanted.now.roster.now }
+    requires held { holds board.now.sizes change.now ≡ true }
+    ensures { Writes IsSafe (W.contents answers.old) (W.contents answers.new) result }
+{
+    match *change {
+        Change::Quote { sym, .. } | Change::State { sym, .. } | Change::Lot { sym, .. } => {
+            write_symbol(wanted, board, change, sym, answers)
+        }
+        Change::Withdraw { .. } => write_symbols(wanted, board, change, answers),
+    }
+}
+
+/// Writes the quotations that a change may alter, in every symbol.
+fn write_symbols<W: Write>(
+    wanted: &Wanted<'_>,
+    board: &Boards,
+    change: &Change,
+    answers: &mut W,
+) -> Result<(), ShowFault>
+    requires sizes { board.now.sizes ≡ sizes_of wanted.now.roster.now }
+    requires held { holds board.now.sizes change.now ≡ true }
+    ensures { Writes IsSafe (W.contents answers.old) (W.contents answers.new) result }
+{
+    for place in 0..wanted.roster.syms() as u16 {
+        write_symbol(wanted, board, change, Sym::new(place).unwrap(), answers)?;
+    }
+    Ok(())
+}
+
+/// Writes the quotations in a symbol that a change may alter, if the symbol is asked for.
+fn write_symbol<W: Write>(
+    wanted: &Wanted<'_>,
+    board: &Boards,
+    change: &Change,
+    sym: Sym,
+    answers: &mut W,
+) -> Result<(), ShowFault>
+    requires sym { sym < length board.now.sizes.lots }
+    requires held { holds board.now.sizes change.now ≡ true }
+    ensures { Writes IsSafe (W.contents answers.old) (W.contents answers.new) result }
+{
+    if !is_asked(&wanted.sym, sym) {
+        return Ok(());
+    }
+    match *change {
+        Change::Quote { part, .. } | Change::State { part, .. } | Change::Withdraw { part } => {
+            write_part(wanted, board, sym, part, answers)
+        }
+        Change::Lot { .. } => write_parts(wanted, board, sym, answers),
+    }
+}
+
+/// Whether a symbol is asked for: it is the one, or all are.
+fn is_asked(asked: &Option<Sym>, sym: Sym) -> bool {
+    match asked {
+        Some(one) => *one == sym,
+        None => true,
+    }
+}
+
+/// Writes every participant's quotations in a symbol.
+fn write_parts<W: Write>(
+    wanted: &Wanted<'_>,
+    board: &Boards,
+    sym: Sym,
+    answers: &mut W,
+) -> Result<(), ShowFault>
+    requires { sym < length board.now.sizes.lots }
+    ensures { Writes IsSafe (W.contents answers.old) (W.contents answers.new) result }
+{
+    for place in 0..board.parts() {
+        write_part(wanted, board, sym, Part::new(place).unwrap(), answers)?;
+    }
+    Ok(())
+}
+
+/// Writes a participant's quotations in a symbol.
+fn write_part<W: Write>(
+    wanted: &Wanted<'_>,
+    board: &Boards,
+    sym: Sym,
+    part: Part,
+    answers: &mut W,
+) -> Result<(), ShowFault>
+    requires sym { sym < length board.now.sizes.lots }
+    requires part { part < board.now.sizes.parts }
+    ensures { Writes IsSafe (W.contents answers.old) (W.contents answers.new) result }
+{
+    let quotation = Quotation {
+        version: board.applied(),
+        sym,
+        part,
+        bid: board.row(Side::Bid, part, sym),
+        offer: board.row(Side::Offer, part, sym),
+    };
+    match time_in(wanted.times, quotation.version) {
+        Some(time) => write_quotation(wanted, &quotation, &time.text(), MEMBERS, answers),
+        None => write_quotation(wanted, &quotation, &[], MEMBERS - 1, answers),
+    }
+}
+
+/// The time of a version, if there are times.
+fn time_in(times: Option<&Times>, version: u64) -> Option<TimeOfDay> {
+    times?.time_of(version)
+}
+
+/// Writes the first `shown` members of the object of a quotation.
+fn write_quotation<W: Write>(
+    wanted: &Wanted<'_>,
+    quotation: &Quotation,
+    time: &[u8],
+    shown: usize,
+    answers: &mut W,
+) -> Result<(), ShowFault>
+    requires { shown ≤ 12 }
+    ensures { Writes IsSafe (W.contents answers.old) (W.contents answers.new) result }
+{
+    let members = members_of(wanted.roster, quotation, time);
+    write_object(wanted.alloc, answers, &members[..shown])
+}
+
+/// The members of the object of a quotation, with a time as the last.
+fn members_of<'a>(
+    roster: &'a Roster,
+    quotation: &Quotation,
+    time: &'a [u8],
+) -> [(&'static str, Item<'a>); 12]
+    ensures { list_all is_plain_member result ≡ true }
+{
+    let (bid, offer) = (&quotation.bid, &quotation.offer);
+    [
+        ("what", Item::Text("quotation")),
+        ("version", Item::Number(quotation.version)),
+        (
+            "symbol",
+            Item::Bytes(name_of_sym(roster, quotation.sym).as_bytes()),
+        ),
+        (
+            "participant",
+            Item::Bytes(name_of_part(roster, quotation.part).as_bytes()),
+        ),
+        ("bid_price", price_of(bid)),
+        ("bid_shares", shares_of(bid)),
+        ("bid_receipt", receipt_of(bid)),
+        ("offer_price", price_of(offer)),
+        ("offer_shares", shares_of(offer)),
+        ("offer_receipt", receipt_of(offer)),
+        ("manual", Item::Flag(is_manual(bid) || is_manual(offer))),
+        ("time", Item::Bytes(time)),
+    ]
+}
+
+/// The price of a side, if it has a quotation.
+fn price_of(row: &Option<Row>) -> Item<'static>
+    ensures { is_own_plain result ≡ true }
+{
+    match row {
+        Some(row) => Item::of_price(row.price),
+        None => Item::Absent,
+    }
+}
+
+/// The displayed shares of a side, if it has a quotation.
+fn shares_of(row: &Option<Row>) -> Item<'static>
+    ensures { is_own_plain result ≡ true }
+{
+    match row {
+        Some(row) => Item::Number(u64::from(row.size)),
+        None => Item::Absent,
+    }
+}
+
+/// The receipt of a side, if it has a quotation.
+fn receipt_of(row: &Option<Row>) -> Item<'static>
+    ensures { is_own_plain result ≡ true }
+{
+    match row {
+        Some(row) => Item::Number(row.receipt),
+        None => Item::Absent,
+    }
+}
+
+/// Whether a quotation is manual.
+fn is_manual(row: &Option<Row>) -> bool {
+    match row {
+        Some(row) => !row.protected,
+        None => false,
+    }
+}

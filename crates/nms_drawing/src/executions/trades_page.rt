@@ -1,0 +1,205 @@
+//! The page of a file of executions: the days of their symbols. How the call ends: `specs/Pages`.
+ghost use Rattle.std.specs.Prelude.{◌≡◌, ◌<◌, ◌≤◌, All, IfErr, IfOk, None, OnOk, false, is_some, length, option_copied, true};
+ghost use Rattle.std.specs.Io.KnownBytes.{Appends};
+ghost use Rattle.nms_quote.specs.Roster.{holds, sizes_of};
+ghost use Rattle.nms_quote.specs.declared.TheConstants.{MOST_CHANGES};
+ghost use Rattle.nms_trades.specs.Answers.{answers_text};
+ghost use Rattle.nms_trades.specs.Files.{IsJudgedFile, is_csv};
+ghost use Rattle.nms_drawing.specs.Drawn.{IsTradesFilePage, IsTradesPage};
+ghost use Rattle.nms_drawing.specs.Pages.{IsOutputFault, IsPageFault, is_begun};
+
+use super::judged::{Judged, judge_source};
+use super::page_fault::PageFault;
+use crate::content::{asides_of, traded_in};
+use crate::drawing_fault::DrawingFault;
+use crate::page::{Content, write_content};
+use crate::rows::Window;
+use nms_fees::Setup;
+use nms_files::read_changes;
+use nms_quote::{Change, Roster, Sym};
+use nms_show::{Ending, Form};
+use nms_times::Times;
+use nms_trades::{Layout, Timing, write_findings};
+use std::alloc::Global;
+use std::io::{Read, Write};
+
+/// What is asked of a file of executions, next to the page.
+#[derive(Clone, Copy)]
+pub struct Asked<'a> {
+    /// The form of the answers.
+    pub form: Form,
+    /// Their layout.
+    pub layout: Layout,
+    /// What the page says that it was made of, by pairs: a key, its text.
+    pub pairs: &'a [&'a [u8]],
+    /// Whether the page has best quotations only, and no boards.
+    pub bests: bool,
+}
+
+/// Judges the executions of a file as `judge_file` of `nms_trades` does, with the same answers, and also writes a page: the days of
+/// their symbols, with each execution and the quotations that it traded through.
+///
+/// `Refused` if a record is refused, else `Done`. Nothing is flushed.
+pub fn write_page<C: Read + Drop, E: Read + Drop, W: Write, P: Write>(
+    alloc: Global,
+    setup: &Setup,
+    changes: C,
+    executions: E,
+    timing: Option<&Timing<'_>>,
+    asked: &Asked<'_>,
+    page: &mut P,
+    answers: &mut W,
+) -> Result<Ending, PageFault>
+    ensures judged { IfOk result (IsJudgedFile setup.now (C.remaining changes) (E.remaining executions) asked.now.form asked.now.layout
+        (W.contents answers.old) (W.contents answers.new)) }
+    ensures page { OnOk result (IsTradesFilePage setup.now (C.remaining changes) (E.remaining executions) (is_some timing.entry) asked.now (P.contents page.old)
+        (P.contents page.new)) }
+    ensures refused { IfErr result (IsPageFault setup.now (C.remaining changes) (E.remaining executions) (option_copied timing.entry)) }
+    ensures unwritten { IfErr result (λ fault. is_begun fault ≡ false
+        → (W.contents answers.new ≡ W.contents answers.old) × (P.contents page.new ≡ P.contents page.old)) }
+{
+    let changes = match read_changes(alloc, setup, changes) {
+        Ok(changes) => changes,
+        Err(fault) => return Err(PageFault::Drawing(DrawingFault::Changes(fault))),
+    };
+    let judged = match judge_source(alloc, setup, &changes, timing, executions) {
+        Ok(judged) => judged,
+        Err(fault) => return Err(PageFault::Trades(fault)),
+    };
+    match write_both(
+        alloc,
+        setup.roster(),
+        &changes,
+        &judged,
+        timing,
+        asked,
+        page,
+        answers,
+    ) {
+        Ok(()) => Ok(judged.records.ending()),
+        Err(fault) => Err(fault),
+    }
+}
+
+/// Writes the answers, and then the page.
+fn write_both<W: Write, P: Write>(
+    alloc: Global,
+    roster: &Roster,
+    changes: &[Change],
+    judged: &Judged,
+    timing: Option<&Timing<'_>>,
+    asked: &Asked<'_>,
+    page: &mut P,
+    answers: &mut W,
+) -> Result<(), PageFault>
+    requires held { All (λ change. holds (sizes_of roster.now) change ≡ true) changes.now }
+    requires few { length changes.now ≤ MOST_CHANGES }
+    requires places { length judged.now.findings.items ≡ length judged.now.records.executions.items }
+    requires symbols { All (λ execution. execution.sym < length roster.now.syms) judged.now.records.executions.items }
+    ensures page { OnOk result (IsTradesPage roster.now changes.now (is_some timing.entry) asked.now judged.now.records.executions.items judged.now.findings.items
+        (P.contents page.old) (P.contents page.new)) }
+    ensures written { is_csv asked.now.layout asked.now.form ≡ true → OnOk result (Appends (W.contents answers.old) (W.contents answers.new)
+        (answers_text roster.now judged.now.records.executions.items judged.now.records.refused.items judged.now.findings.items)) }
+    ensures refused { IfErr result IsOutputFault }
+{
+    match write_findings(
+        alloc,
+        roster,
+        &judged.records,
+        &judged.findings,
+        asked.form,
+        asked.layout,
+        answers,
+    ) {
+        Ok(()) => write_judged(alloc, roster, changes, judged, timing, asked, page),
+        Err(fault) => Err(PageFault::Trades(fault)),
+    }
+}
+
+/// Writes the page.
+fn write_judged<P: Write>(
+    alloc: Global,
+    roster: &Roster,
+    changes: &[Change],
+    judged: &Judged,
+    timing: Option<&Timing<'_>>,
+    asked: &Asked<'_>,
+    page: &mut P,
+) -> Result<(), PageFault>
+    requires held { All (λ change. holds (sizes_of roster.now) change ≡ true) changes.now }
+    requires few { length changes.now ≤ MOST_CHANGES }
+    requires places { length judged.now.findings.items ≡ length judged.now.records.executions.items }
+    requires symbols { All (λ execution. execution.sym < length roster.now.syms) judged.now.records.executions.items }
+    ensures page { OnOk result (IsTradesPage roster.now changes.now (is_some timing.entry) asked.now judged.now.records.executions.items judged.now.findings.items
+        (P.contents page.old) (P.contents page.new)) }
+    ensures refused { IfErr result IsOutputFault }
+{
+    let Ok(traded) = traded_in(alloc, roster, &judged.records.executions) else {
+        return Err(PageFault::Drawing(DrawingFault::NoMemory));
+    };
+    let window = Window {
+        days: &traded.days,
+        times: times_of(timing),
+        opening: 0,
+        from: 0,
+        to: changes.len() as u64,
+        since: 0,
+        until: u64::MAX,
+        timed: timing.is_some(),
+        bests: asked.bests,
+    };
+    let aside = [asides_of(Some(judged))];
+    let content = content_of(
+        &*roster,
+        &*changes,
+        &*judged,
+        &window,
+        &traded.symbols,
+        &*asked.pairs,
+        &aside,
+    );
+    match write_content(alloc, &content, page) {
+        Ok(_) => Ok(()),
+        Err(fault) => Err(PageFault::Drawing(fault)),
+    }
+}
+
+/// The times of the versions, if there are any.
+fn times_of<'a>(timing: Option<&Timing<'a>>) -> Option<&'a Times> {
+    match timing {
+        Some(timing) => Some(timing.times),
+        None => None,
+    }
+}
+
+/// What the page is made of.
+fn content_of<'x>(
+    roster: &'x Roster,
+    changes: &'x [Change],
+    judged: &'x Judged,
+    window: &'x Window<'x>,
+    symbols: &'x [Sym],
+    about: &'x [&'x [u8]],
+    aside: &'x [[u64; 2]],
+) -> Content<'x>
+    ensures roster { result.roster.now ≡ roster.now }
+    ensures changes { result.changes.now ≡ changes.now }
+    ensures window { result.window.now ≡ window.now }
+    ensures executions { result.executions.now ≡ judged.now.records.executions.items }
+    ensures findings { result.findings.now ≡ judged.now.findings.items }
+    ensures symbols { result.symbols.now ≡ symbols.now }
+    ensures plan { result.plan ≡ None }
+{
+    Content {
+        roster,
+        changes,
+        window,
+        symbols,
+        executions: &judged.records.executions,
+        findings: &judged.findings,
+        aside,
+        plan: None,
+        name: "",
+        about,
+    }
+}

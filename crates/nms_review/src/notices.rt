@@ -1,0 +1,161 @@
+//! The lines that an import or a comparison writes on standard error.
+use crate::call::{Call, Host};
+use crate::fault::{About, Fault};
+use crate::request::{Import, Path};
+use csv::ByteRecord;
+use nms_codes::Code;
+use nms_import::MapFault;
+use nms_lines::field_at;
+use nms_show::{Ending, Form, Item, write_line};
+use std::str;
+
+/// The most names of columns that are shown.
+const MOST_NAMES: usize = 40;
+
+/// Reports why a mapping is refused, in the file that has it or lacks its columns: its table, its key and what is expected there.
+pub(crate) fn refuse_map<'x, T: Host>(
+    call: &Call<'_, T>,
+    file: Path<'x>,
+    fault: &'x MapFault,
+) -> Result<Ending, Fault> {
+    let code = code_of(fault);
+    let (line, table, key, expected) = match fault {
+        MapFault::NotToml { line } => (Item::Number(*line), "", "", ""),
+        MapFault::Missing {
+            table,
+            key,
+            expected,
+        }
+        | MapFault::Unknown {
+            table,
+            key,
+            expected,
+        }
+        | MapFault::BadValue {
+            table,
+            key,
+            expected,
+        } => (Item::Absent, *table, key.as_str(), *expected),
+        MapFault::NoColumn { key, expected } => {
+            (Item::Absent, "column", key.as_str(), *expected)
+        }
+        MapFault::NoMemory => return Err(Fault::of(code, About::Nothing)),
+    };
+    let items = [
+        Item::Text("nms_review: "),
+        Item::Bytes(file.name.as_bytes()),
+        Item::Text(": "),
+        Item::Text(code.text()),
+        Item::Text(": "),
+        Item::Text(code.sentence()),
+        Item::Text(if key.is_empty() { ": line " } else { ": [" }),
+        line,
+        Item::Text(table),
+        Item::Text(if key.is_empty() { "" } else { "] " }),
+        Item::Bytes(key.as_bytes()),
+        Item::Text(if key.is_empty() { "" } else { ": expected " }),
+        Item::Text(expected),
+    ];
+    show_line(call, &items)?;
+    Ok(Ending::SetupRefused)
+}
+
+/// Reports a file without the columns that its mapping names, and those that its first line has.
+pub(crate) fn refuse_columns<T: Host>(
+    call: &Call<'_, T>,
+    file: Path<'_>,
+    fault: &MapFault,
+    names: &ByteRecord,
+) -> Result<Ending, Fault> {
+    let ending = refuse_map(call, file, fault)?;
+    let mut items = Vec::new(call.alloc());
+    items
+        .push(Item::Text("nms_review: its first line has"))
+        .map_err(|_| Fault::no_memory())?;
+    for place in 0..names.len().min(MOST_NAMES) {
+        let mark = if place == 0 { " `" } else { "`, `" };
+        items
+            .push(Item::Text(mark))
+            .map_err(|_| Fault::no_memory())?;
+        items
+            .push(Item::Bytes(field_at(names, place)))
+            .map_err(|_| Fault::no_memory())?;
+    }
+    let end = if names.is_empty() { " nothing" } else { "`" };
+    items.push(Item::Text(end)).map_err(|_| Fault::no_memory())?;
+    show_line(call, &items)?;
+    Ok(ending)
+}
+
+/// Shows the first file without a last line that counts its rows, if the mapping names the count.
+pub(crate) fn note_short<T: Host>(
+    call: &Call<'_, T>,
+    file: Path<'_>,
+    was_short: bool,
+    is_short: bool,
+) -> Result<(), Fault> {
+    if was_short || !is_short {
+        return Ok(());
+    }
+    show_line(
+        call,
+        &[
+            Item::Bytes(file.name.as_bytes()),
+            Item::Text(": the first file whose last line is absent or counts other rows"),
+        ],
+    )
+}
+
+/// Says that the setup is the built-in one, if no other was named: rows of names that are not on its roster made nothing.
+pub(crate) fn note_built_in<T: Host>(call: &Call<'_, T>, import: &Import<'_>) -> Result<(), Fault> {
+    if import.has_setup {
+        return Ok(());
+    }
+    let text =
+        "nms_review: no --setup was given: the built-in setup has only N, P, Y, Z and ABC, PNY";
+    show_line(call, &[Item::Text(text)])
+}
+
+/// Warns of times at which no market is open.
+pub(crate) fn note_odd_hours<T: Host>(call: &Call<'_, T>) -> Result<(), Fault> {
+    let text =
+        "nms_review: most changes are before 04:00 or after 20:00: are time.form and time.zone_offset right?";
+    show_line(call, &[Item::Text(text)])
+}
+
+/// Shows a line.
+fn show_line<T: Host>(call: &Call<'_, T>, items: &[Item<'_>]) -> Result<(), Fault> {
+    let mut text = Vec::new(call.alloc());
+    match write_line(&mut text, Form::Text { colours: false }, items) {
+        Ok(()) => {
+            show_text(call, &text);
+            Ok(())
+        }
+        Err(_) => Err(Fault::no_memory()),
+    }
+}
+
+/// Shows what was kept back for standard error, and forgets it.
+pub(crate) fn show_kept<T: Host>(call: &Call<'_, T>, text: &mut Vec<u8>) {
+    show_text(call, text.as_slice());
+    text.clear();
+}
+
+/// Shows a text.
+fn show_text<T: Host>(call: &Call<'_, T>, text: &[u8]) {
+    if let Ok(text) = str::from_utf8(text) {
+        let _ = call.rt.eprint(text);
+    }
+}
+
+/// The code of what is wrong with a mapping.
+fn code_of(fault: &MapFault) -> Code {
+    match fault {
+        MapFault::NotToml { .. } => Code::M1,
+        MapFault::Missing { .. } => Code::M2,
+        MapFault::Unknown { .. } => Code::M3,
+        MapFault::BadValue { .. } => Code::M4,
+        MapFault::NoColumn { .. } => Code::M5,
+        MapFault::NoMemory => Code::M6,
+    }
+}

@@ -1,0 +1,540 @@
+//! What a call asks for: what the words of each subcommand say. They are read here and nowhere else.
+//!
+//! If no file is read before a word is tested, a wrong one is a fault at once. Else its field has the fault until its turn comes.
+use crate::fault::{About, Fault};
+use crate::words::{Kind, RecordKind, Sub, Words};
+use nms_times::TimeOfDay;
+use nms_trades::Layout;
+use std::alloc::Global;
+
+/// The longest window, in nanoseconds: a minute. An execution may look at each change of its symbol's best prices in its
+/// window, so longer ones would take hours on a day. This product's own rule.
+const LONGEST_WINDOW: u64 = 60_000_000_000;
+
+/// A file that a word names.
+#[derive(Clone, Copy)]
+pub(crate) struct Path<'a> {
+    pub(crate) name: &'a str,
+    pub(crate) about: About,
+}
+
+/// A symbol that a word names.
+#[derive(Clone, Copy)]
+pub(crate) struct Symbol<'a> {
+    pub(crate) name: &'a str,
+    pub(crate) about: About,
+}
+
+/// A symbol among whose changes versions are found by time.
+#[derive(Clone, Copy)]
+pub(crate) struct Within<'a> {
+    /// The file of symbols that an import wrote.
+    pub(crate) symbols: Path<'a>,
+    pub(crate) symbol: Symbol<'a>,
+}
+
+/// A version that a word names.
+#[derive(Clone, Copy)]
+pub(crate) enum Version {
+    /// By its number.
+    Number(u64),
+    /// The last one at or before a time, which the word has after `@`.
+    At { time: TimeOfDay, about: About },
+}
+
+/// What a call asks for.
+#[derive(Drop)]
+pub(crate) enum Request<'a> {
+    Explain(Explain<'a>),
+    /// Of a script.
+    Tape(Path<'a>),
+    At(At<'a>),
+    Opening(Opening<'a>),
+    Stream(Stream<'a>),
+    Plans(Plans<'a>),
+    Draw(Draw<'a>),
+    Import(Import<'a>),
+    When(When<'a>),
+    Trades(Trades<'a>),
+    Compare(Compare<'a>),
+}
+
+/// `explain`.
+#[derive(Drop)]
+pub(crate) struct Explain<'a> {
+    pub(crate) kind: Kind,
+    /// The file, or the code.
+    pub(crate) subject: Path<'a>,
+    /// The letter of a feed.
+    pub(crate) feed: Option<&'a str>,
+    pub(crate) times: Option<Path<'a>>,
+    pub(crate) symbols: Option<Path<'a>>,
+}
+
+/// `at`.
+#[derive(Drop)]
+pub(crate) struct At<'a> {
+    pub(crate) version: Result<Version, Fault>,
+    pub(crate) changes: Path<'a>,
+    /// Without one all symbols are shown.
+    pub(crate) symbol: Option<Symbol<'a>>,
+    pub(crate) times: Option<Path<'a>>,
+    pub(crate) within: Option<Within<'a>>,
+}
+
+/// `opening`.
+#[derive(Drop)]
+pub(crate) struct Opening<'a> {
+    pub(crate) version: Result<u64, Fault>,
+    pub(crate) changes: Path<'a>,
+}
+
+/// `stream`.
+#[derive(Drop)]
+pub(crate) struct Stream<'a> {
+    pub(crate) changes: Path<'a>,
+    /// Without one all symbols are streamed.
+    pub(crate) symbol: Option<Symbol<'a>>,
+    /// Whether each participant's quotations are streamed, in place of the best ones.
+    pub(crate) boards: bool,
+    pub(crate) times: Option<Path<'a>>,
+}
+
+/// `check` and `why`.
+#[derive(Drop)]
+pub(crate) struct Plans<'a> {
+    /// Whether it is `why`.
+    pub(crate) is_why: bool,
+    pub(crate) changes: Path<'a>,
+    /// The file of answers, or of the plan.
+    pub(crate) plans: Path<'a>,
+    pub(crate) times: Option<Path<'a>>,
+}
+
+/// `draw`.
+#[derive(Drop)]
+pub(crate) struct Draw<'a> {
+    pub(crate) changes: Path<'a>,
+    pub(crate) symbol: Symbol<'a>,
+    pub(crate) plan: Option<Path<'a>>,
+    /// The file of executions.
+    pub(crate) trades: Option<Path<'a>>,
+    pub(crate) from: Result<Option<Version>, Fault>,
+    pub(crate) to: Result<Option<Version>, Fault>,
+    /// Whether the page counts versions, although there are times.
+    pub(crate) own: bool,
+    /// Whether the page has best quotations only.
+    pub(crate) bests: bool,
+    pub(crate) times: Option<Path<'a>>,
+    pub(crate) within: Option<Within<'a>>,
+}
+
+/// `import`.
+#[derive(Drop)]
+pub(crate) struct Import<'a> {
+    pub(crate) map: Path<'a>,
+    /// The vendor's files, in order.
+    pub(crate) files: Vec<Path<'a>>,
+    /// What the names of the written files begin with.
+    pub(crate) out: &'a str,
+    /// Whether each time has the number of its row.
+    pub(crate) rows: bool,
+    pub(crate) shards: bool,
+    /// Whether a setup was named.
+    pub(crate) has_setup: bool,
+}
+
+/// `when`.
+#[derive(Drop)]
+pub(crate) struct When<'a> {
+    pub(crate) times: Path<'a>,
+    pub(crate) wanted: Wanted<'a>,
+}
+
+/// What `when` finds.
+#[derive(Drop)]
+pub(crate) enum Wanted<'a> {
+    /// The time of this version.
+    Time(u64),
+    /// The versions at some times.
+    Versions(Versions<'a>),
+}
+
+/// The versions at some times.
+#[derive(Drop)]
+pub(crate) struct Versions<'a> {
+    pub(crate) times: Vec<TimeOfDay>,
+    /// Whether the changes of a time itself are left out.
+    pub(crate) before: bool,
+    pub(crate) within: Option<Within<'a>>,
+}
+
+/// `trades`.
+#[derive(Drop)]
+pub(crate) struct Trades<'a> {
+    pub(crate) changes: Path<'a>,
+    pub(crate) executions: Path<'a>,
+    pub(crate) times: Option<Path<'a>>,
+    pub(crate) symbols: Option<Path<'a>>,
+    /// Whether the changes of an execution's own time are left out.
+    pub(crate) before: bool,
+    /// In nanoseconds.
+    pub(crate) window: Result<Option<u64>, Fault>,
+    pub(crate) layout: Layout,
+    /// The page that is written too.
+    pub(crate) html: Option<Path<'a>>,
+    /// Whether it has best quotations only.
+    pub(crate) bests: bool,
+}
+
+/// `compare`.
+#[derive(Drop)]
+pub(crate) struct Compare<'a> {
+    pub(crate) changes: Path<'a>,
+    /// The vendor's file of national bests.
+    pub(crate) national: Path<'a>,
+    pub(crate) map: Path<'a>,
+    pub(crate) times: Path<'a>,
+}
+
+/// What the words ask for, or the first fault of those that come before any file.
+pub(crate) fn request_of<'a>(alloc: Global, words: &Words<'a>) -> Result<Request<'a>, Fault> {
+    match words.command {
+        Sub::Explain => explained(words),
+        Sub::Tape => Ok(Request::Tape(own_file(words, 0))),
+        Sub::At => Ok(Request::At(At {
+            version: version_shown(words),
+            changes: own_file(words, 1),
+            symbol: own_symbol(words, 2),
+            times: given_file(words, "times"),
+            within: found_within(words, own_symbol(words, 2)),
+        })),
+        Sub::Opening => Ok(Request::Opening(Opening {
+            version: number_in(own_word(words, 0), About::Word(0)),
+            changes: own_file(words, 1),
+        })),
+        Sub::Stream => streamed(words),
+        Sub::Check | Sub::Why => Ok(Request::Plans(Plans {
+            is_why: words.command == Sub::Why,
+            changes: own_file(words, 0),
+            plans: own_file(words, 1),
+            times: given_file(words, "times"),
+        })),
+        Sub::Draw => Ok(drawn(words)),
+        Sub::Import => imported(alloc, words),
+        Sub::When => sought(alloc, words),
+        Sub::Trades => Ok(judged(words)),
+        Sub::Compare => Ok(Request::Compare(Compare {
+            changes: own_file(words, 0),
+            national: own_file(words, 1),
+            map: needed_file(words, "map"),
+            times: needed_file(words, "times"),
+        })),
+    }
+}
+
+/// What `explain` is asked for. An option without effect on the kind is refused.
+fn explained<'a>(words: &Words<'a>) -> Result<Request<'a>, Fault> {
+    let Some(kind) = Kind::named(own_word(words, 0)) else {
+        // The parser takes no other word there.
+        return Err(Fault::usage(About::Word(0), "it is no kind of file"));
+    };
+    let is_feed = matches!(kind, Kind::Records(RecordKind::Feed));
+    let is_executions = matches!(kind, Kind::Executions);
+    let options = [
+        ("feed", is_feed, "--feed goes with the kind feed"),
+        (
+            "setup",
+            kind.is_under_setup(),
+            "--setup does not go with this kind",
+        ),
+        (
+            "times",
+            is_executions,
+            "--times goes with the kind executions",
+        ),
+        (
+            "symbols",
+            is_executions,
+            "--symbols goes with the kind executions",
+        ),
+    ];
+    for (option, has_effect, expected) in options {
+        if !has_effect && words.option(option).is_some() {
+            return Err(Fault::usage(About::Value(option), expected));
+        }
+    }
+    if words.option("symbols").is_some() && words.option("times").is_none() {
+        return Err(Fault::usage(About::Nothing, "--symbols needs --times"));
+    }
+    Ok(Request::Explain(Explain {
+        kind,
+        subject: own_file(words, 1),
+        feed: words.option("feed"),
+        times: given_file(words, "times"),
+        symbols: given_file(words, "symbols"),
+    }))
+}
+
+/// The version that `at` shows. If it is found by time in a file of symbols, a symbol is needed.
+fn version_shown(words: &Words<'_>) -> Result<Version, Fault> {
+    let lacks_symbol = words.option("times").is_some()
+        && words.option("symbols").is_some()
+        && words.word(2).is_none();
+    match version_in(own_word(words, 0), About::Word(0)) {
+        Ok(Version::At { .. }) if lacks_symbol => {
+            Err(Fault::usage(About::Nothing, "--symbols needs SYM"))
+        }
+        version => version,
+    }
+}
+
+/// What `stream` is asked for. Boards have no form as text.
+fn streamed<'a>(words: &Words<'a>) -> Result<Request<'a>, Fault> {
+    let boards = words.has("boards");
+    if boards && !words.has("json") {
+        return Err(Fault::usage(About::Nothing, "--boards needs --json"));
+    }
+    Ok(Request::Stream(Stream {
+        changes: own_file(words, 0),
+        symbol: own_symbol(words, 1),
+        boards,
+        times: given_file(words, "times"),
+    }))
+}
+
+/// What `draw` is asked for.
+fn drawn<'a>(words: &Words<'a>) -> Request<'a> {
+    let symbol = Symbol {
+        name: own_word(words, 1),
+        about: About::Word(1),
+    };
+    Request::Draw(Draw {
+        changes: own_file(words, 0),
+        symbol,
+        plan: given_file(words, "plan"),
+        trades: given_file(words, "trades"),
+        from: version_given(words, "from"),
+        to: version_given(words, "to"),
+        own: words.has("own"),
+        bests: words.has("bests"),
+        times: given_file(words, "times"),
+        within: found_within(words, Some(symbol)),
+    })
+}
+
+/// What `import` is asked for.
+fn imported<'a>(alloc: Global, words: &Words<'a>) -> Result<Request<'a>, Fault> {
+    let mut files = Vec::new(alloc);
+    for place in 1..words.own.len() {
+        if files.push(own_file(words, place)).is_err() {
+            return Err(Fault::no_memory());
+        }
+    }
+    Ok(Request::Import(Import {
+        map: own_file(words, 0),
+        files,
+        out: words.option("out").unwrap_or(""),
+        rows: words.has("rows"),
+        shards: words.has("shards"),
+        has_setup: words.option("setup").is_some(),
+    }))
+}
+
+/// What `when` is asked for.
+fn sought<'a>(alloc: Global, words: &Words<'a>) -> Result<Request<'a>, Fault> {
+    let times = own_file(words, 0);
+    match words.option("version") {
+        Some(version) => match version_alone(words, version) {
+            Ok(version) => Ok(Request::When(When {
+                times,
+                wanted: Wanted::Time(version),
+            })),
+            Err(fault) => Err(fault),
+        },
+        None => match versions_sought(alloc, words) {
+            Ok(versions) => Ok(Request::When(When {
+                times,
+                wanted: Wanted::Versions(versions),
+            })),
+            Err(fault) => Err(fault),
+        },
+    }
+}
+
+/// The version whose time is asked for. What finds versions does not go with it.
+fn version_alone(words: &Words<'_>, version: &str) -> Result<u64, Fault> {
+    if words.own.len() > 1
+        || words.has("before")
+        || words.option("symbols").is_some()
+        || words.option("symbol").is_some()
+    {
+        return Err(Fault::usage(
+            About::Nothing,
+            "--version goes with no TIME, nor with --before, --symbols or --symbol",
+        ));
+    }
+    number_in(version, About::Value("version"))
+}
+
+/// The times whose versions are asked for, at least one.
+fn versions_sought<'a>(alloc: Global, words: &Words<'a>) -> Result<Versions<'a>, Fault> {
+    if words.own.len() < 2 {
+        return Err(Fault::usage(About::Nothing, "give a TIME, or --version"));
+    }
+    let mut times = Vec::new(alloc);
+    for place in 1..words.own.len() {
+        let Some(time) = TimeOfDay::parse(own_word(words, place).as_bytes()) else {
+            return Err(no_time(About::Word(place)));
+        };
+        if times.push(time).is_err() {
+            return Err(Fault::no_memory());
+        }
+    }
+    let symbol = words.option("symbol").map(|name| Symbol {
+        name,
+        about: About::Value("symbol"),
+    });
+    if words.option("symbols").is_some() != symbol.is_some() {
+        return Err(Fault::usage(About::Nothing, "--symbols and --symbol go together"));
+    }
+    Ok(Versions {
+        times,
+        before: words.has("before"),
+        within: found_within(words, symbol),
+    })
+}
+
+/// What `trades` is asked for.
+fn judged<'a>(words: &Words<'a>) -> Request<'a> {
+    let layout = if words.has("table") {
+        Layout::Table
+    } else {
+        Layout::Lines
+    };
+    Request::Trades(Trades {
+        changes: own_file(words, 0),
+        executions: own_file(words, 1),
+        times: given_file(words, "times"),
+        symbols: given_file(words, "symbols"),
+        before: words.has("before"),
+        window: window_given(words),
+        layout,
+        html: given_file(words, "html"),
+        bests: words.has("bests"),
+    })
+}
+
+/// The nanoseconds that `--window` gives. It needs times, as two other options do.
+fn window_given(words: &Words<'_>) -> Result<Option<u64>, Fault> {
+    let window = words.option("window");
+    let needs_times = window.is_some() || words.has("before") || words.option("symbols").is_some();
+    if needs_times && words.option("times").is_none() {
+        return Err(Fault::usage(
+            About::Nothing,
+            "--window, --before and --symbols need --times",
+        ));
+    }
+    let Some(word) = window else {
+        return Ok(None);
+    };
+    match digits_in(word) {
+        Some(nanoseconds) if nanoseconds <= LONGEST_WINDOW => Ok(Some(nanoseconds)),
+        Some(_) | None => Err(Fault::usage(
+            About::Nothing,
+            "--window takes nanoseconds, at most 60000000000 (a minute)",
+        )),
+    }
+}
+
+/// The subcommand's own word at a place. The parser makes sure that the needed ones are there.
+fn own_word<'a>(words: &Words<'a>, place: usize) -> &'a str {
+    words.word(place).unwrap_or("")
+}
+
+/// The file that the subcommand's own word at a place names.
+fn own_file<'a>(words: &Words<'a>, place: usize) -> Path<'a> {
+    Path {
+        name: own_word(words, place),
+        about: About::Word(place),
+    }
+}
+
+/// The file that an option names. The parser makes sure that it is there.
+fn needed_file<'a>(words: &Words<'a>, option: &'static str) -> Path<'a> {
+    Path {
+        name: words.option(option).unwrap_or(""),
+        about: About::Value(option),
+    }
+}
+
+/// The file that an option names, if it was given.
+fn given_file<'a>(words: &Words<'a>, option: &'static str) -> Option<Path<'a>> {
+    Some(Path {
+        name: words.option(option)?,
+        about: About::Value(option),
+    })
+}
+
+/// The symbol that the subcommand's own word at a place names, if there is one.
+fn own_symbol<'a>(words: &Words<'a>, place: usize) -> Option<Symbol<'a>> {
+    Some(Symbol {
+        name: words.word(place)?,
+        about: About::Word(place),
+    })
+}
+
+/// Where versions are found by time: in the changes of a symbol, if a file of symbols is named.
+fn found_within<'a>(words: &Words<'a>, symbol: Option<Symbol<'a>>) -> Option<Within<'a>> {
+    Some(Within {
+        symbols: given_file(words, "symbols")?,
+        symbol: symbol?,
+    })
+}
+
+/// The version that an option names, if it was given.
+fn version_given(words: &Words<'_>, option: &'static str) -> Result<Option<Version>, Fault> {
+    let Some(word) = words.option(option) else {
+        return Ok(None);
+    };
+    match version_in(word, About::Value(option)) {
+        Ok(version) => Ok(Some(version)),
+        Err(fault) => Err(fault),
+    }
+}
+
+/// The version that a word names.
+fn version_in(word: &str, about: About) -> Result<Version, Fault> {
+    let Some(time) = word.strip_prefix('@') else {
+        return match number_in(word, about) {
+            Ok(number) => Ok(Version::Number(number)),
+            Err(fault) => Err(fault),
+        };
+    };
+    match TimeOfDay::parse(time.as_bytes()) {
+        Some(time) => Ok(Version::At { time, about }),
+        None => Err(no_time(about)),
+    }
+}
+
+/// The number of a version.
+fn number_in(word: &str, about: About) -> Result<u64, Fault> {
+    digits_in(word).ok_or(Fault::usage(about, "a version is a number, 0 or more"))
+}
+
+/// The fault of a word that is no time.
+fn no_time(about: About) -> Fault {
+    Fault::usage(
+        about,
+        "a time is six digits HHMMSS, and up to nine after them",
+    )
+}
+
+/// A number, in digits only: `parse` would accept a plus before them too.
+fn digits_in(word: &str) -> Option<u64> {
+    if word.bytes().all(|byte| byte.is_ascii_digit()) {
+        word.parse::<u64>().ok()
+    } else {
+        None
+    }
+}
