@@ -9,6 +9,7 @@ data must be what the whole page has in it. The pages are those of the examples,
 of DAYS random days (6 if it is not given) of 150 changes and 250 executions in two symbols. The last line is
 `N passed, M failed`; status 1 at a difference.
 """
+import csv
 import json
 import os
 import random
@@ -124,6 +125,16 @@ def time_of(room, words, version, begins):
         return nanoseconds(file.read().split()[version - 1])
 
 
+def untimed(room, words, executions, begins):
+    """Executions, where one that names a version before its symbol's first change has no time."""
+    named = set()
+    if "--trades" in words:
+        with open(os.path.join(room, words[words.index("--trades") + 1]), newline="", encoding="utf-8") as file:
+            named = {number for number, row in enumerate(filter(None, csv.reader(file)), 1) if row[6:] and row[6][:1] != "@"}
+    return [{key: value for key, value in it.items() if key != "time"} if it["record"] in named and it.get("version", 0) in begins else it
+            for it in executions]
+
+
 def moved(row, version, time):
     """A row of the board or of the lots as at a later version."""
     ages = {f"{side}_age": row.get(f"{side}_age", 0) + version - row.get("version", 0) for side in ("bid", "offer") if f"{side}_shares" in row}
@@ -165,7 +176,8 @@ def one_page(program, words, *span, room=None, begins=(0,)):
             return one_page(program, words, *span, room=filled(room))
     report, page = written(program, room, words)
     made = packed(program, room, words)
-    wanted = cut(made[1], time_of(room, words, span[0], begins), *span) if span else made[1]
+    whole = dict(made[1], executions=untimed(room, words, made[1]["executions"], begins))
+    wanted = cut(whole, time_of(room, words, span[0], begins), *span) if span else made[1]
     if "--own" in words:
         wanted = dict(wanted, days=[{key: value for key, value in it.items() if key != "timed"} for it in wanted["days"]])
     came, wanted = stripped(page), stripped(wanted)
