@@ -17,6 +17,7 @@ import sys
 
 import claims
 import draw_crates
+import keys
 
 TOP = os.path.dirname(os.path.dirname(os.path.realpath(__file__)))
 sys.path[:0] = [f"{TOP}/tests", f"{TOP}/page"]
@@ -304,7 +305,7 @@ def check_links():
 # What is made of the sources.
 
 def check_made():
-    """The words of ARCHITECTURE.md, what CLAIMS.md shows of docs/claims.py, the picture of the crates and the page's text are as the sources have them."""
+    """The words of ARCHITECTURE.md, what CLAIMS.md shows of docs/claims.py, the keys of IMPORT.md, the picture of the crates and the page's text are as the sources have them."""
     page = claims.PAGE
     there, wanted = read(page).split("\n"), claims.made().split("\n")
     differing = next((old for old, new in itertools.zip_longest(there, wanted) if old != new), "")
@@ -315,6 +316,7 @@ def check_made():
     for name, it in sorted(claims.tree().items()):
         if it.functions and name not in ("nms_examples", "nms_tests"):
             check("`" in claims.printed(name), CLAIMS, f"it prints no claim of `{name}`")
+    check(read(keys.PAGE) == keys.page(), keys.PAGE, "docs/keys.py --write writes its table of keys otherwise")
     check(read("docs/crates.svg") == draw_crates.drawn(), "docs/crates.svg", "docs/draw_crates.py draws another picture")
     check(read(PAGE_TEXT) == join.source(), PAGE_TEXT, "page/join.py writes another text")
     page = "docs/ARCHITECTURE.md"

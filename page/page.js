@@ -28,6 +28,8 @@ const COLUMNS = {
 // The list or the table that columns have places in.
 const PLACES = { symbols: ' day ', names: ' by bid_by offer_by ', words: ' name verdict note text ',
   executions: ' execution ', plans: ' plan ' };
+// How many values columns of kinds have.
+const MOST = { timed: 2, kind: 4, side: 3, part: 3 };
 const DIGITS = 'ABCDEFGHIJKLMNOPQRSTUVWXYZabcdefghijklmnopqrstuvwxyz0123456789+/';
 const DIGIT = new Uint8Array(128).fill(64);
 for (let i = 0; i < 64; i++) DIGIT[DIGITS.charCodeAt(i)] = i;
@@ -57,7 +59,7 @@ function readTable(name) {
   must(Number.isInteger(n) && n >= 0, `there is no table ${name}`);
   for (const column of COLUMNS[name].split(' ')) {
     const text = given[column], list = data[Object.keys(PLACES).find(it => PLACES[it].includes(` ${column} `))];
-    const most = !list ? 2 ** 47 : list.n === undefined ? list.length : list.n;
+    const most = MOST[column] || !list ? MOST[column] || 2 ** 47 : list.n === undefined ? list.length : list.n;
     table[column] = text === undefined ? new Float64Array(n) : readColumn(text, n, `${name}.${column}`, most);
   }
   return table;
@@ -636,7 +638,8 @@ function planButtons() {
 function planWords() {
   const { plan } = now, q = quotations, sentences = placesOf(said.plan, plan);
   const [order, doubt, certificate] = [0, 1, 2].map(part =>
-    sentences.filter(it => said.part[it] === part).map(it => `<p>${wordsOf(said.text[it])}`).join(''));
+    sentences.filter(it => said.part[it] === part).map(it => said.text[it]).map(it =>
+      `<p${data.words[it].startsWith(data.words[plans.name[plan]]) ? ' class="as-is"' : ''}>${wordsOf(it)}`).join(''));
   const rows = placesOf(q.plan, plan).map(it =>
     cells([nameOf(q.by[it]), money(q.price[it]), commas(q.shares[it]), commas(q.sent[it]), wordsOf(q.note[it])])).join('');
   $('plan').innerHTML = plan < 0 ? '' : `<h2>The plan ${chip(wordsOf(plans.verdict[plan]))}</h2><b>${doubt}</b>${order}` +
@@ -974,7 +977,8 @@ function makeFilters() {
   if (data.symbols.length > 1)
     addFilter('Symbol', 'symbol', counted(row => [symbolOf(row)], places('day').map(it => data.symbols[it])));
   const halves = [...new Set(Array.from(trades.time, it => clock(floor(it / HALF) * HALF).slice(0, 5)))];
-  if (days.timed.includes(1)) addFilter('Half hour', 'half', counted(row => [half(row)], halves).map(it => [...it, timeOf(`${it[0]}:00`) / HALF]));
+  if (days.timed.includes(1))
+    addFilter('Half hour', 'half', counted(row => [half(row)], halves).map(it => [...it, timeOf(`${it[0]}:00`) / HALF]));
 }
 function makeTable() {
   const head = $('scroll').querySelector('thead'), id = make('input', { type: 'search', id: 'filter-id', placeholder: 'id',

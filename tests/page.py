@@ -30,7 +30,7 @@ REVIEW, TRADES = os.path.join(EXAMPLES, "review"), os.path.join(EXAMPLES, "trade
 DAY, DESK = f"{REVIEW}/day.changes", f"{TRADES}/desk.changes"
 TIMES = ("--times", f"{TRADES}/desk.times")
 # Bytes of the page's own text, and columns of a line of its sources.
-MOST_BYTES, MOST_COLUMNS = 70_000, 148
+MOST_BYTES, MOST_COLUMNS = 70_000, 130
 HOSTILE = "<img src=x onerror=bad()> & \"'.changes"
 
 
@@ -757,7 +757,7 @@ def damaged(pages):
     broken = [whole[:start], whole[:start + 40], whole[:start + 900], whole[:-20 - len("</script></body></html>")]]
     for old, new in (('"format":1', '"format":2'), ('"bid":"2', '"bid":"x'), ('"version":"0CC', '"version":"0C'), (',"Y"]', ']'),
                      ('"lines":{"n":5', '"lines":{"n":6'), ('"ids":["fill-1",', '"ids":['), ('"bid_by":"0C', '"bid_by":"0D'),
-                     ('"aside":{', '"asides":{'), ('"side":"0C', '"side":"0!'), ('"lot":"2C', '"lot":2'),
+                     ('"kind":"0A', '"kind":"0I'), ('"aside":{', '"asides":{'), ('"side":"0C', '"side":"0!'), ('"lot":"2C', '"lot":2'),
                      ('"by":"0C', '"by":"0!')):  # this one is of the board, which is read after the first picture
         must(whole.count(old, start), f"the data has no {old}")
         broken.append(whole[:start] + whole[start:].replace(old, new, 1))

@@ -1,16 +1,21 @@
 -- The national best bid and offer that a row of a vendor's file says (17 CFR 242.600, "national best bid and national
 -- best offer"). How its texts are read is the rule of `import`.
-use Rattle.std.specs.Prelude.{ℕ, Option, Some, None, option_map, Result}
+use Rattle.std.specs.Prelude.{ℕ, ◌≢◌, Option, Some, None, option_map, Result}
 use Rattle.nms_quote.specs.Content.{Content}
 use Rattle.nms_quote.specs.Roster.{Listing}
 use Rattle.nms_quote.specs.declared.change.Change.{Change}
 use Rattle.nms_quote.specs.declared.change.Change.TheVariants as change
 use Rattle.nms_lines.specs.Layout.{Record}
+use Rattle.toml.specs.Data.{Members}
+use Rattle.nms_import.specs.Drafts.{plain}
+use Rattle.nms_import.specs.Readings.{IsMappingOf}
 use Rattle.nms_import.specs.Mapping.{◌>>=◌, entry_of, or_stop}
 use Rattle.nms_import.specs.declared.cause.Cause.{Cause}
 use Rattle.nms_import.specs.declared.cause.Cause.TheVariants as cause
 use Rattle.nms_import.specs.declared.column.Columns.{Columns}
+use Rattle.nms_import.specs.declared.keys.Kind.TheVariants as kind
 use Rattle.nms_import.specs.declared.mapping.Mapping.{Mapping}
+use Rattle.nms_import.specs.declared.mapping.Order.TheVariants as order
 use Rattle.nms_import.specs.declared.meanings.Meanings.{Meanings}
 use Rattle.nms_compare.specs.declared.national.Best.{Best}
 use Rattle.nms_compare.specs.declared.national.National.{National}
@@ -47,3 +52,9 @@ national_of bids offers mapping roster row = do
 pub record BySide : Type 0 where
   pub bids : Mapping
   pub offers : Mapping
+
+-- the mapping of a document that has no fault, of both sides; its rows are found by their times
+pub record IsNationalOf (document : Members) (mapping : BySide) : Type 0 where
+  pub bids : IsMappingOf (plain kind.Bests document) mapping.bids
+  pub offers : IsMappingOf (plain kind.Bests document) mapping.offers
+  pub timed : mapping.bids.order ≢ order.Free

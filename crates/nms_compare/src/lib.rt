@@ -21,5 +21,5 @@ pub use counts::{Counts, write_counts};
 pub use finding::{Finding, find_between};
 pub use keys::{key_of, keys_of};
 pub use national::{Best, National, read_national};
-pub use national_mapping::{NationalMapping, read_national_mapping};
+pub use national_mapping::{NationalMapping, national_mapping_of};
 pub use showing::Shown;

@@ -6,7 +6,7 @@ pub(crate) const HEAD: &str = r#"<!doctype html>
 <head>
 <meta charset="utf-8">
 <meta name="viewport" content="width=device-width, initial-scale=1">
-<meta http-equiv="Content-Security-Policy" content="default-src 'none'; base-uri 'none'; form-action 'none'; style-src 'sha256-7eyeEsUVepiP8PYVwVOWSnlbGeu2tL3MgJ5qfEngVWc='; script-src 'sha256-oxv2dwyFSCE8aFpIEJfqJMO7kOHtDJL/3ntkEGwwZ3o='">
+<meta http-equiv="Content-Security-Policy" content="default-src 'none'; base-uri 'none'; form-action 'none'; style-src 'sha256-RRKDnOJEN3UXGbdSgSBWYlc7XLf9ur8OocGqJLuILps='; script-src 'sha256-+BMVY9MXSGey6IgHVHvgfwCaG8IxZdysN/OW1YlZJBU='">
 <title>A day of quotes</title>
 <style id="style">
 /* picture: what the saved SVG has too */
@@ -131,7 +131,7 @@ th, #count { color: var(--soft); }
 .chip.LOCKED { color: var(--flicker); }
 .chip.CONFIRMED { color: var(--sweep); }
 #plan, #finding { background: var(--panel); border-radius: 6px; padding: .6rem .7rem; }
-#plan p::first-letter { text-transform: uppercase; }
+#plan p:not(.as-is)::first-letter { text-transform: uppercase; }
 #plans button { display: block; width: 100%; text-align: left; margin: .2rem 0; }
 #plans button[aria-pressed=true] { background: var(--pick); color: inherit; }
 #scroll { max-height: 21rem; overflow: auto; border: 1px solid var(--hair); border-radius: 6px; }
@@ -258,6 +258,8 @@ const COLUMNS = {
 // The list or the table that columns have places in.
 const PLACES = { symbols: ' day ', names: ' by bid_by offer_by ', words: ' name verdict note text ',
   executions: ' execution ', plans: ' plan ' };
+// How many values columns of kinds have.
+const MOST = { timed: 2, kind: 4, side: 3, part: 3 };
 const DIGITS = 'ABCDEFGHIJKLMNOPQRSTUVWXYZabcdefghijklmnopqrstuvwxyz0123456789+/';
 const DIGIT = new Uint8Array(128).fill(64);
 for (let i = 0; i < 64; i++) DIGIT[DIGITS.charCodeAt(i)] = i;
@@ -287,7 +289,7 @@ function readTable(name) {
   must(Number.isInteger(n) && n >= 0, `there is no table ${name}`);
   for (const column of COLUMNS[name].split(' ')) {
     const text = given[column], list = data[Object.keys(PLACES).find(it => PLACES[it].includes(` ${column} `))];
-    const most = !list ? 2 ** 47 : list.n === undefined ? list.length : list.n;
+    const most = MOST[column] || !list ? MOST[column] || 2 ** 47 : list.n === undefined ? list.length : list.n;
     table[column] = text === undefined ? new Float64Array(n) : readColumn(text, n, `${name}.${column}`, most);
   }
   return table;
@@ -866,7 +868,8 @@ function planButtons() {
 function planWords() {
   const { plan } = now, q = quotations, sentences = placesOf(said.plan, plan);
   const [order, doubt, certificate] = [0, 1, 2].map(part =>
-    sentences.filter(it => said.part[it] === part).map(it => `<p>${wordsOf(said.text[it])}`).join(''));
+    sentences.filter(it => said.part[it] === part).map(it => said.text[it]).map(it =>
+      `<p${data.words[it].startsWith(data.words[plans.name[plan]]) ? ' class="as-is"' : ''}>${wordsOf(it)}`).join(''));
   const rows = placesOf(q.plan, plan).map(it =>
     cells([nameOf(q.by[it]), money(q.price[it]), commas(q.shares[it]), commas(q.sent[it]), wordsOf(q.note[it])])).join('');
   $('plan').innerHTML = plan < 0 ? '' : `<h2>The plan ${chip(wordsOf(plans.verdict[plan]))}</h2><b>${doubt}</b>${order}` +
@@ -1204,7 +1207,8 @@ function makeFilters() {
   if (data.symbols.length > 1)
     addFilter('Symbol', 'symbol', counted(row => [symbolOf(row)], places('day').map(it => data.symbols[it])));
   const halves = [...new Set(Array.from(trades.time, it => clock(floor(it / HALF) * HALF).slice(0, 5)))];
-  if (days.timed.includes(1)) addFilter('Half hour', 'half', counted(row => [half(row)], halves).map(it => [...it, timeOf(`${it[0]}:00`) / HALF]));
+  if (days.timed.includes(1))
+    addFilter('Half hour', 'half', counted(row => [half(row)], halves).map(it => [...it, timeOf(`${it[0]}:00`) / HALF]));
 }
 function makeTable() {
   const head = $('scroll').querySelector('thead'), id = make('input', { type: 'search', id: 'filter-id', placeholder: 'id',

@@ -1,7 +1,7 @@
 -- The counts of the records of a file, with one record more; and how a report ends by them.
 use Rattle.std.proofs.Common.{ℕ, ◌≡◌, ◌+◌, ◌++◌, ◌∷◌, ◌||◌, List, [], Bool, true, false, cond, length, refl, sym, ap, ◌∙◌}
 use Rattle.std.proofs.Common.{arith}
-use Rattle.std.specs.Prelude.{Result, Ok, Err, Option, fold}
+use Rattle.std.specs.Prelude.{Result, Ok, Err, IfOk, Option, fold}
 use Rattle.std.specs.List.{count_by, list_any}
 use Rattle.std.proofs.lemmas.List.{length-append}
 use Rattle.std.proofs.lemmas.List.Folds.{list_any-append}
@@ -73,9 +73,10 @@ fold_same p q same n (x ∷ xs) =
 -- two readings that refuse the same records end the same
 pub ends_same : {X Y : Type 0} (first : Record → Result X LineFault) (second : Record → Result Y LineFault)
     → ((fields : Record) → is_refused first fields ≡ is_refused second fields)
-    → (bytes : Option (List ℕ)) (ended : Ending) → EndsBy first bytes ended → EndsBy second bytes ended
-ends_same first second same bytes ended by =
+    → (bytes : Option (List ℕ)) {E : Type 0} (r : Result Ending E) → IfOk r (EndsBy first bytes) → IfOk r (EndsBy second bytes)
+ends_same first second same bytes (Ok ended) by =
     (by.0, by.1, by.2 ∙ ap ending_by (fold_same (is_refused first) (is_refused second) same 0 by.0))
+ends_same first second same bytes (Err fault) by = tt
 
 -- by a tally
 pub ends_by : (reading : Record → Result Line LineFault) (bytes : Option (List ℕ)) (tally : Tally) (ended : Ending)

@@ -30,8 +30,8 @@ use nms_codes::Code;
 use nms_fees::Setup;
 use nms_lines::{ByteRecord, Kind, LineFault, Reader, Reading, RecordFault, read_line};
 use nms_quote::{Feed, Roster};
-use nms_show::{Ending, Form, Item};
-use std::alloc::Global;
+use nms_show::{Ending, Form, Item, SafeText};
+use std::alloc::{AllocError, Global};
 use std::io::{Read, Write};
 
 /// The fault of a source of more records, lines or bytes than a number counts: there is none.
@@ -40,11 +40,10 @@ pub(crate) const TOO_LONG: ExplainFault = ExplainFault::Record(RecordFault::Fail
 /// What the caller asks for.
 #[derive(Clone, Copy)]
 struct Asked<'a> {
-    alloc: Global,
     roster: &'a Roster,
+    feeds: u8,
     file: &'a str,
     from: Reading,
-    form: Form,
 }
 
 /// Reports each refused record of a script, and whether it publishes anything. It runs nothing of the script, so it does not
@@ -65,26 +64,7 @@ pub fn explain_script<R: Read + Drop, W: Write>(
     let from = Reading::Script {
         desks: setup.desks(),
     };
-    let tally = explain_file(alloc, setup, file, source, from, form, answers)?;
-    tell_unpublished(alloc, file, form, &tally, answers)?;
-    Ok(ending_of(&tally))
-}
-
-/// Remarks that a script publishes nothing, if so.
-fn tell_unpublished<W: Write>(
-    alloc: Global,
-    file: &str,
-    form: Form,
-    tally: &Tally,
-    answers: &mut W,
-) -> Result<(), ExplainFault>
-    ensures safe { Writes IsSafe (W.contents answers.old) (W.contents answers.new) result }
-{
-    if tally.publishes {
-        return Ok(());
-    }
-    let remark = "nothing was published: no record `F` and no record `P` was taken";
-    tell_remark(alloc, file, form, remark, answers).map_err(ExplainFault::Show)
+    explain_file(alloc, setup, file, source, from, form, answers)
 }
 
 /// Reports each refused record of a file of changes, as `explain_script` does.
@@ -101,9 +81,7 @@ pub fn explain_changes<R: Read + Drop, W: Write>(
     ensures ending { IfOk result (EndsBy (change_reading setup.now.roster) (R.remaining source)) }
     ensures safe { Writes IsSafe (W.contents answers.old) (W.contents answers.new) result }
 {
-    let from = Reading::Changes;
-    let tally = explain_file(alloc, setup, file, source, from, form, answers)?;
-    Ok(ending_of(&tally))
+    explain_file(alloc, setup, file, source, Reading::Changes, form, answers)
 }
 
 /// Reports each refused record of a file of orders, as `explain_script` does.
@@ -123,8 +101,7 @@ pub fn explain_orders<R: Read + Drop, W: Write>(
     let from = Reading::Orders {
         desks: setup.desks(),
     };
-    let tally = explain_file(alloc, setup, file, source, from, form, answers)?;
-    Ok(ending_of(&tally))
+    explain_file(alloc, setup, file, source, from, form, answers)
 }
 
 /// Reports each refused record of the file of a feed, and whether all of them are of other feeds.
@@ -143,31 +120,80 @@ pub fn explain_feed<R: Read + Drop, W: Write>(
     ensures safe { Writes IsSafe (W.contents answers.old) (W.contents answers.new) result }
 {
     let from = Reading::FromFeed(feed);
-    let tally = explain_file(alloc, setup, file, source, from, form, answers)?;
-    tell_swapped(alloc, setup, file, form, &tally, answers)?;
-    Ok(ending_of(&tally))
+    explain_file(alloc, setup, file, source, from, form, answers)
 }
 
-/// Remarks that all records of a feed's file are of other feeds, if so.
-fn tell_swapped<W: Write>(
+/// Reports each refused record of a file, and how many there were.
+fn explain_file<R: Read + Drop, W: Write>(
     alloc: Global,
     setup: &Setup,
     file: &str,
+    source: R,
+    from: Reading,
     form: Form,
-    tally: &Tally,
     answers: &mut W,
-) -> Result<(), ExplainFault>
+) -> Result<Ending, ExplainFault>
+    ensures ending { IfOk result (EndsBy (reading setup.now.roster from) (R.remaining source)) }
     ensures safe { Writes IsSafe (W.contents answers.old) (W.contents answers.new) result }
 {
-    if tally.records == 0 || tally.count(LineFault::WrongFeed) != tally.records {
-        return Ok(());
-    }
-    let remark = if setup.feeds() > 2 {
-        "each record's participant is on another feed: swapped?"
-    } else {
-        "each record's participant is on the other feed: swapped?"
+    let asked = Asked {
+        roster: setup.roster(),
+        feeds: setup.feeds(),
+        file,
+        from,
     };
-    tell_remark(alloc, file, form, remark, answers).map_err(ExplainFault::Show)
+    let mut reader = open_source(alloc, source);
+    let mut row = ByteRecord::new(alloc);
+    let mut out = SafeText::new(alloc, form);
+    explain_source(&asked, &mut reader, &mut row, &mut out, answers)
+}
+
+/// As `explain_file`, for the records that a reader gives. It owns neither the reader nor the record, so its exits drop nothing.
+fn explain_source<R: Read, W: Write>(
+    asked: &Asked<'_>,
+    reader: &mut Reader<RecordSource<R>>,
+    row: &mut ByteRecord,
+    out: &mut SafeText,
+    answers: &mut W,
+) -> Result<Ending, ExplainFault>
+    ensures ending { (bytes : Option (List ℕ)) → ReadsFrom (left_of R.remaining) reader.old bytes []
+        → IfOk result (EndsBy (reading asked.now.roster.now asked.now.from) bytes) }
+    ensures safe { Writes IsSafe (W.contents answers.old) (W.contents answers.new) result }
+{
+    let tally = explain_records(asked, reader, row, out, answers)?;
+    tell_sum(asked, &tally, out)?;
+    out.pass_on(answers)?;
+    Ok(ending_of(&tally))
+}
+
+/// Writes how many records there were, and what is to be said of the whole file.
+fn tell_sum(asked: &Asked<'_>, tally: &Tally, out: &mut SafeText) -> Result<(), AllocError> {
+    tally.tell(asked.file, out)?;
+    match remark_of(asked, tally) {
+        Some(remark) => tell_remark(asked.file, remark, out),
+        None => Ok(()),
+    }
+}
+
+/// What is to be said of a whole file: that a script publishes nothing, or that all records of a feed's file are of other feeds.
+fn remark_of(asked: &Asked<'_>, tally: &Tally) -> Option<&'static str> {
+    match asked.from {
+        Reading::Script { .. } if !tally.publishes => {
+            Some("nothing was published: no record `F` and no record `P` was taken")
+        }
+        Reading::FromFeed(_) if is_swapped(tally) => Some(if asked.feeds > 2 {
+            "each record's participant is on another feed: swapped?"
+        } else {
+            "each record's participant is on the other feed: swapped?"
+        }),
+        Reading::Script { .. } | Reading::Changes | Reading::Orders { .. } | Reading::FromFeed(_) =>
+            { None }
+    }
+}
+
+/// Whether there are records, and all are refused as those of other feeds.
+fn is_swapped(tally: &Tally) -> bool {
+    tally.records > 0 && tally.count(LineFault::WrongFeed) == tally.records
 }
 
 /// How a report ends on a file with records so counted.
@@ -181,52 +207,12 @@ fn ending_of(tally: &Tally) -> Ending
     }
 }
 
-/// Reports each refused record of a file, and how many there were.
-fn explain_file<R: Read + Drop, W: Write>(
-    alloc: Global,
-    setup: &Setup,
-    file: &str,
-    source: R,
-    from: Reading,
-    form: Form,
-    answers: &mut W,
-) -> Result<Tally, ExplainFault>
-    ensures counts { IfOk result (IsFileTally (reading setup.now.roster from) (R.remaining source)) }
-    ensures safe { Writes IsSafe (W.contents answers.old) (W.contents answers.new) result }
-{
-    let asked = Asked {
-        alloc,
-        roster: setup.roster(),
-        file,
-        from,
-        form,
-    };
-    let tally = explain_source(&asked, source, answers)?;
-    match tally.tell(alloc, file, form, answers) {
-        Ok(()) => Ok(tally),
-        Err(fault) => Err(ExplainFault::Show(fault)),
-    }
-}
-
-/// Reports each refused record of a source, and counts all.
-fn explain_source<R: Read + Drop, W: Write>(
-    asked: &Asked<'_>,
-    source: R,
-    answers: &mut W,
-) -> Result<Tally, ExplainFault>
-    ensures counts { IfOk result (IsFileTally (reading asked.now.roster.now asked.now.from) (R.remaining source)) }
-    ensures safe { Writes IsSafe (W.contents answers.old) (W.contents answers.new) result }
-{
-    let mut reader = open_source(asked.alloc, source);
-    let mut row = ByteRecord::new(asked.alloc);
-    explain_records(asked, &mut reader, &mut row, answers)
-}
-
-/// As `explain_source`, for the records that a reader gives.
+/// Reports each refused record that a reader gives, one after the other, and counts all.
 fn explain_records<R: Read, W: Write>(
     asked: &Asked<'_>,
     reader: &mut Reader<RecordSource<R>>,
     row: &mut ByteRecord,
+    out: &mut SafeText,
     answers: &mut W,
 ) -> Result<Tally, ExplainFault>
     ensures counts { (bytes : Option (List ℕ)) → ReadsFrom (left_of R.remaining) reader.old bytes []
@@ -236,7 +222,10 @@ fn explain_records<R: Read, W: Write>(
     let mut tally = Tally::new();
     for turn in 0..u64::MAX {
         match next_record(reader, row) {
-            Ok(true) => explain_record(asked, reader, row, turn + 1, &mut tally, answers)?,
+            Ok(true) => {
+                explain_record(asked, reader, row, turn + 1, &mut tally, out)?;
+                out.pass_on(answers)?;
+            }
             Ok(false) => return Ok(tally),
             Err(fault) => return Err(ExplainFault::Record(fault)),
         }
@@ -245,13 +234,13 @@ fn explain_records<R: Read, W: Write>(
 }
 
 /// Counts the record of a number, and reports it if it is refused.
-fn explain_record<R: Read, W: Write>(
+fn explain_record<R: Read>(
     asked: &Asked<'_>,
     reader: &Reader<RecordSource<R>>,
     row: &ByteRecord,
     number: u64,
     tally: &mut Tally,
-    answers: &mut W,
+    out: &mut SafeText,
 ) -> Result<(), ExplainFault>
     requires room { tally.old.records < 2 ^ 64 - 1 }
     requires within { IsWithin tally.old }
@@ -259,7 +248,6 @@ fn explain_record<R: Read, W: Write>(
     ensures records { tally.new.records ≡ tally.old.records + 1 }
     ensures counts { (seen : List Record) → IsTallyOf (reading asked.now.roster.now asked.now.from) seen tally.old
         → IsTallyOf (reading asked.now.roster.now asked.now.from) (seen ++ fields_of row.now ∷ []) tally.new }
-    ensures safe { Writes IsSafe (W.contents answers.old) (W.contents answers.new) result }
 {
     match read_line(row, asked.roster, asked.from) {
         Ok(line) => {
@@ -268,22 +256,20 @@ fn explain_record<R: Read, W: Write>(
         }
         Err(fault) => {
             tally.refuse(fault);
-            tell_fault(asked, reader, number, row, fault, answers)
+            tell_fault(asked, reader, number, row, fault, out)
         }
     }
 }
 
 /// Reports a refused record by its number.
-fn tell_fault<R: Read, W: Write>(
+fn tell_fault<R: Read>(
     asked: &Asked<'_>,
     reader: &Reader<RecordSource<R>>,
     number: u64,
     row: &ByteRecord,
     fault: LineFault,
-    answers: &mut W,
-) -> Result<(), ExplainFault>
-    ensures safe { Writes IsSafe (W.contents answers.old) (W.contents answers.new) result }
-{
+    out: &mut SafeText,
+) -> Result<(), ExplainFault> {
     let Some(record) = record_of(reader) else {
         return Err(TOO_LONG);
     };
@@ -291,7 +277,8 @@ fn tell_fault<R: Read, W: Write>(
     let Some(point) = refusal.point() else {
         return Err(TOO_LONG);
     };
-    tell_refusal(asked.alloc, asked.form, &refusal, point, answers).map_err(ExplainFault::Show)
+    tell_refusal(&refusal, point, out)?;
+    Ok(())
 }
 
 /// The report on a refused record.

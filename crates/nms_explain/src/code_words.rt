@@ -1,13 +1,12 @@
 //! What a code means, and what to do about it.
-ghost use Rattle.std.specs.Prelude.{◌≡◌, true};
 ghost use Rattle.nms_show.specs.Safe.{IsSafe};
 ghost use Rattle.nms_show.specs.Written.{Writes};
 
 use crate::execution_code::ExecutionCode;
 use crate::other_codes::OTHERS;
 use nms_codes::Code;
-use nms_show::{Form, Item, ShowFault, write_advice, write_plain_line, write_plain_object};
-use std::alloc::Global;
+use nms_show::{Form, Item, SafeText, ShowFault};
+use std::alloc::{AllocError, Global};
 use std::io::Write;
 
 /// The codes of the reviewer's program.
@@ -79,7 +78,8 @@ pub(crate) struct CodeWords {
 /// Prints what a code means and what to do about it: each meaning, if it has several. Returns whether there is such a code; if
 /// not, nothing is printed.
 ///
-/// The answers are not flushed. A fault leaves what was printed before. What is written is safe to show on a terminal.
+/// The answers are not flushed. What is written is safe to show on a terminal; at a fault it is a first part of such a text.
+#[tactic(auto, using(nms_show::proofs::Offered::no_part_added))]
 pub fn explain_code<W: Write>(
     alloc: Global,
     code: &str,
@@ -88,21 +88,15 @@ pub fn explain_code<W: Write>(
 ) -> Result<bool, ShowFault>
     ensures safe { Writes IsSafe (W.contents answers.old) (W.contents answers.new) result }
 {
-    let of_program = tell_own(alloc, code, form, answers)?;
-    let of_executions = tell_executions(alloc, code, form, answers)?;
-    let of_others = tell_others(alloc, code, form, answers)?;
-    Ok(of_program || of_executions || of_others)
+    let mut out = SafeText::new(alloc, form);
+    let is_told = tell_code(code, &mut out)?;
+    out.pass_on(answers)?;
+    Ok(is_told)
 }
 
-/// Prints a code of the reviewer's program. Returns whether there is one.
-fn tell_own<W: Write>(
-    alloc: Global,
-    code: &str,
-    form: Form,
-    answers: &mut W,
-) -> Result<bool, ShowFault>
-    ensures safe { Writes IsSafe (W.contents answers.old) (W.contents answers.new) result }
-{
+/// Writes each meaning of a code: of the reviewer's program, of a refused execution, of the other programs or the library.
+/// Returns whether there is one.
+fn tell_code(code: &str, out: &mut SafeText) -> Result<bool, AllocError> {
     let mut is_told = false;
     for own in CODES {
         let words = CodeWords {
@@ -110,91 +104,45 @@ fn tell_own<W: Write>(
             sentence: own.sentence(),
             remedy: own.remedy(),
         };
-        let is_it = tell_named(alloc, words, code, form, answers)?;
+        let is_it = tell_named(words, code, out)?;
         is_told = is_told || is_it;
     }
-    Ok(is_told)
-}
-
-/// Prints a code of a refused execution. Returns whether there is one.
-fn tell_executions<W: Write>(
-    alloc: Global,
-    code: &str,
-    form: Form,
-    answers: &mut W,
-) -> Result<bool, ShowFault>
-    ensures safe { Writes IsSafe (W.contents answers.old) (W.contents answers.new) result }
-{
-    let mut is_told = false;
     for own in ExecutionCode::ALL {
         let words = CodeWords {
             code: own.text(),
             sentence: own.sentence(),
             remedy: own.remedy(),
         };
-        let is_it = tell_named(alloc, words, code, form, answers)?;
+        let is_it = tell_named(words, code, out)?;
         is_told = is_told || is_it;
     }
-    Ok(is_told)
-}
-
-/// Prints a code of the other programs or the library. Returns whether there is one.
-fn tell_others<W: Write>(
-    alloc: Global,
-    code: &str,
-    form: Form,
-    answers: &mut W,
-) -> Result<bool, ShowFault>
-    ensures safe { Writes IsSafe (W.contents answers.old) (W.contents answers.new) result }
-{
-    let mut is_told = false;
     for words in OTHERS.iter() {
-        let is_it = tell_named(alloc, *words, code, form, answers)?;
+        let is_it = tell_named(*words, code, out)?;
         is_told = is_told || is_it;
     }
     Ok(is_told)
 }
 
-/// Prints a code if it is the one that is asked for. Returns whether it is.
-fn tell_named<W: Write>(
-    alloc: Global,
-    words: CodeWords,
-    code: &str,
-    form: Form,
-    answers: &mut W,
-) -> Result<bool, ShowFault>
-    ensures safe { Writes IsSafe (W.contents answers.old) (W.contents answers.new) result }
-{
+/// Writes a code if it is the one that is asked for. Returns whether it is.
+fn tell_named(words: CodeWords, code: &str, out: &mut SafeText) -> Result<bool, AllocError> {
     if words.code != code {
         return Ok(false);
     }
-    tell_words(alloc, words, form, answers)?;
+    tell_words(words, out)?;
     Ok(true)
 }
 
-/// Prints a code with its sentence, and what to do about it.
-fn tell_words<W: Write>(
-    alloc: Global,
-    words: CodeWords,
-    form: Form,
-    answers: &mut W,
-) -> Result<(), ShowFault>
-    ensures safe { Writes IsSafe (W.contents answers.old) (W.contents answers.new) result }
-{
-    if form.is_json() {
-        let members = [
+/// Writes a code with its sentence, and what to do about it.
+fn tell_words(words: CodeWords, out: &mut SafeText) -> Result<(), AllocError> {
+    let (code, sentence) = (words.code.as_bytes(), words.sentence.as_bytes());
+    if out.is_json() {
+        return out.object(&[
             ("what", Item::Text("code")),
-            ("code", Item::Bytes(words.code.as_bytes())),
-            ("sentence", Item::Bytes(words.sentence.as_bytes())),
+            ("code", Item::Bytes(code)),
+            ("sentence", Item::Bytes(sentence)),
             ("remedy", Item::Bytes(words.remedy.as_bytes())),
-        ];
-        return write_plain_object(alloc, answers, &members);
+        ]);
     }
-    let items = [
-        Item::Bytes(words.code.as_bytes()),
-        Item::Text(": "),
-        Item::Bytes(words.sentence.as_bytes()),
-    ];
-    write_plain_line(answers, form, &items)?;
-    write_advice(answers, form, words.remedy)
+    out.line(&[Item::Bytes(code), Item::Text(": "), Item::Bytes(sentence)])?;
+    out.advice(words.remedy)
 }

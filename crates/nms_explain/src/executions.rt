@@ -16,8 +16,8 @@ use crate::refusal_code::RefusalCode;
 use crate::span::{Span, open_quote, span_of};
 use crate::tally::{tell_count, tell_counts};
 use nms_lines::{ByteRecord, Reader};
-use nms_show::{Ending, Form, Item};
-use std::alloc::Global;
+use nms_show::{Ending, Form, Item, SafeText};
+use std::alloc::{AllocError, Global};
 use std::io::{Read, Write};
 
 /// How many fields an execution has.
@@ -35,10 +35,8 @@ pub struct RefusedExecution {
 /// What the caller asks for.
 #[derive(Clone, Copy)]
 struct Asked<'a> {
-    alloc: Global,
     file: &'a str,
     refused: &'a [RefusedExecution],
-    form: Form,
 }
 
 /// Reports each refused execution of a text, given which are refused, in the order of their records: with its line, its column,
@@ -56,15 +54,11 @@ pub fn explain_executions<W: Write>(
     ensures ending { IfOk result (λ ending. ending ≡ ending_by (length refused.now)) }
     ensures safe { Writes IsSafe (W.contents answers.old) (W.contents answers.new) result }
 {
-    let asked = Asked {
-        alloc,
-        file,
-        refused,
-        form,
-    };
+    let asked = Asked { file, refused };
     let mut reader = open_source(alloc, text);
     let mut row = ByteRecord::new(alloc);
-    explain_text(&asked, &mut reader, &mut row, answers)
+    let mut out = SafeText::new(alloc, form);
+    explain_text(&asked, &mut reader, &mut row, &mut out, answers)
 }
 
 /// As `explain_executions`, for the text of a reader. It owns neither the reader nor the record, so its exits drop nothing.
@@ -72,13 +66,15 @@ fn explain_text<R: Read, W: Write>(
     asked: &Asked<'_>,
     reader: &mut Reader<RecordSource<R>>,
     row: &mut ByteRecord,
+    out: &mut SafeText,
     answers: &mut W,
 ) -> Result<Ending, ExplainFault>
     ensures ending { IfOk result (λ ending. ending ≡ ending_by (length asked.now.refused.now)) }
     ensures safe { Writes IsSafe (W.contents answers.old) (W.contents answers.new) result }
 {
-    let records = explain_records(asked, reader, row, answers)?;
-    tell_sum(asked, records, answers)?;
+    let records = explain_records(asked, reader, row, out, answers)?;
+    tell_sum(asked, records, out)?;
+    out.pass_on(answers)?;
     if asked.refused.is_empty() {
         Ok(Ending::Done)
     } else {
@@ -91,6 +87,7 @@ fn explain_records<R: Read, W: Write>(
     asked: &Asked<'_>,
     reader: &mut Reader<RecordSource<R>>,
     row: &mut ByteRecord,
+    out: &mut SafeText,
     answers: &mut W,
 ) -> Result<u64, ExplainFault>
     ensures safe { Writes IsSafe (W.contents answers.old) (W.contents answers.new) result }
@@ -98,7 +95,10 @@ fn explain_records<R: Read, W: Write>(
     let mut told = 0;
     for turn in 0..u64::MAX {
         match next_record(reader, row) {
-            Ok(true) => told = explain_record(asked, reader, row, turn + 1, told, answers)?,
+            Ok(true) => {
+                told = explain_record(asked, reader, row, turn + 1, told, out)?;
+                out.pass_on(answers)?;
+            }
             Ok(false) => return Ok(turn),
             Err(fault) => return Err(ExplainFault::Record(fault)),
         }
@@ -107,43 +107,30 @@ fn explain_records<R: Read, W: Write>(
 }
 
 /// Reports the record of a number if it is the next that is refused, after that many. Returns how many were reported then.
-#[tactic(auto, using(nms_show::proofs::Offered::nothing_added))]
-fn explain_record<R: Read, W: Write>(
+fn explain_record<R: Read>(
     asked: &Asked<'_>,
     reader: &Reader<RecordSource<R>>,
     row: &ByteRecord,
     number: u64,
     told: usize,
-    answers: &mut W,
-) -> Result<usize, ExplainFault>
-    ensures safe { Writes IsSafe (W.contents answers.old) (W.contents answers.new) result }
-{
+    out: &mut SafeText,
+) -> Result<usize, ExplainFault> {
     if told >= asked.refused.len() || asked.refused[told].number != number {
         return Ok(told);
     }
-    tell_code(
-        asked,
-        reader,
-        row,
-        number,
-        asked.refused[told].code,
-        answers,
-    )?;
+    tell_code(asked, reader, row, number, asked.refused[told].code, out)?;
     Ok(told + 1)
 }
 
 /// Reports a refused record by its number.
-#[tactic(auto, using(nms_show::proofs::Offered::no_part_added))]
-fn tell_code<R: Read, W: Write>(
+fn tell_code<R: Read>(
     asked: &Asked<'_>,
     reader: &Reader<RecordSource<R>>,
     row: &ByteRecord,
     number: u64,
     code: ExecutionCode,
-    answers: &mut W,
-) -> Result<(), ExplainFault>
-    ensures safe { Writes IsSafe (W.contents answers.old) (W.contents answers.new) result }
-{
+    out: &mut SafeText,
+) -> Result<(), ExplainFault> {
     let Some(record) = record_of(reader) else {
         return Err(TOO_LONG);
     };
@@ -151,7 +138,8 @@ fn tell_code<R: Read, W: Write>(
     let Some(point) = refusal.point() else {
         return Err(TOO_LONG);
     };
-    tell_refusal(asked.alloc, asked.form, &refusal, point, answers).map_err(ExplainFault::Show)
+    tell_refusal(&refusal, point, out)?;
+    Ok(())
 }
 
 /// The report on a refused record.
@@ -224,42 +212,12 @@ fn found_at<'a>(row: &'a ByteRecord, field: Option<FieldPlace>) -> Item<'a>
 }
 
 /// Reports how many records there are, and how many are refused by each code.
-fn tell_sum<W: Write>(asked: &Asked<'_>, records: u64, answers: &mut W) -> Result<(), ExplainFault>
-    ensures safe { Writes IsSafe (W.contents answers.old) (W.contents answers.new) result }
-{
-    let Asked {
-        alloc,
-        file,
-        form,
-        refused,
-    } = *asked;
-    let all = refused.len() as u64;
-    match tell_counts(alloc, file, form, records, all, answers) {
-        Ok(()) => tell_codes(asked, answers),
-        Err(fault) => Err(ExplainFault::Show(fault)),
-    }
-}
-
-/// Reports how many are refused by each code.
-fn tell_codes<W: Write>(asked: &Asked<'_>, answers: &mut W) -> Result<(), ExplainFault>
-    ensures safe { Writes IsSafe (W.contents answers.old) (W.contents answers.new) result }
-{
-    let Asked {
-        alloc,
-        file,
-        form,
-        refused,
-    } = *asked;
+fn tell_sum(asked: &Asked<'_>, records: u64, out: &mut SafeText) -> Result<(), AllocError> {
+    let Asked { file, refused } = *asked;
+    tell_counts(file, records, refused.len() as u64, out)?;
     for code in ExecutionCode::ALL {
         let count = count_of(refused, code);
-        tell_count(
-            alloc,
-            file,
-            form,
-            RefusalCode::Execution(code),
-            count,
-            answers,
-        )?;
+        tell_count(file, RefusalCode::Execution(code), count, out)?;
     }
     Ok(())
 }

@@ -5,6 +5,7 @@ ghost use Rattle.nms_explain.specs.Faults.{code_of, status_of};
 use nms_codes::Code;
 use nms_lines::RecordFault;
 use nms_show::ShowFault;
+use std::alloc::AllocError;
 use std::fmt;
 use thiserror::Error;
 
@@ -26,6 +27,12 @@ impl ExplainFault {
             ExplainFault::Record(fault) => Code::of_record(fault),
             ExplainFault::Show(fault) => Code::of_show(fault),
         }
+    }
+}
+
+impl From<AllocError> for ExplainFault {
+    fn from(_error: AllocError) -> ExplainFault {
+        ExplainFault::Show(ShowFault::NoMemory)
     }
 }
 

@@ -23,8 +23,8 @@ use nms_codes::Code;
 use nms_fees::Setup;
 use nms_lines::{ByteRecord, Reader};
 use nms_quote::Roster;
-use nms_show::{Ending, Form, Item, ShowFault};
-use std::alloc::Global;
+use nms_show::{Ending, Form, Item, SafeText};
+use std::alloc::{AllocError, Global};
 use std::io::{Read, Write};
 
 /// The code of a text that is not a plan's.
@@ -33,10 +33,8 @@ const CODE: Code = Code::L11;
 /// What the caller asks for.
 #[derive(Clone, Copy)]
 struct Asked<'a> {
-    alloc: Global,
     roster: &'a Roster,
     file: &'a str,
-    form: Form,
 }
 
 /// The state after the records of a plan's text so far.
@@ -63,14 +61,13 @@ pub fn explain_plan<W: Write>(
     ensures safe { Writes IsSafe (W.contents answers.old) (W.contents answers.new) result }
 {
     let asked = Asked {
-        alloc,
         roster: setup.roster(),
         file,
-        form,
     };
     let mut reader = open_source(alloc, text);
     let mut row = ByteRecord::new(alloc);
-    explain_text(&asked, &mut reader, &mut row, answers)
+    let mut out = SafeText::new(alloc, form);
+    explain_text(&asked, &mut reader, &mut row, &mut out, answers)
 }
 
 /// As `explain_plan`, for the text of a reader. It owns neither the reader nor the record, so its exits drop nothing.
@@ -78,20 +75,20 @@ fn explain_text<R: Read, W: Write>(
     asked: &Asked<'_>,
     reader: &mut Reader<RecordSource<R>>,
     row: &mut ByteRecord,
+    out: &mut SafeText,
     answers: &mut W,
 ) -> Result<Ending, ExplainFault>
     ensures ending { (bytes : Option (List ℕ)) → ReadsFrom (left_of R.remaining) reader.old bytes []
         → IfOk result (EndsAsPlan asked.now.roster.now bytes) }
     ensures safe { Writes IsSafe (W.contents answers.old) (W.contents answers.new) result }
 {
-    let came = explain_records(asked, reader, row, answers)?;
+    let came = explain_records(asked, reader, row, out, answers)?;
     let Some(end) = reader.get_ref().end() else {
         return Err(TOO_LONG);
     };
-    match tell_end(&came, asked, end, answers) {
-        Ok(ending) => Ok(ending),
-        Err(fault) => Err(ExplainFault::Show(fault)),
-    }
+    let ending = tell_end(&came, asked, end, out)?;
+    out.pass_on(answers)?;
+    Ok(ending)
 }
 
 /// Reports each wrong record that a reader gives.
@@ -99,6 +96,7 @@ fn explain_records<R: Read, W: Write>(
     asked: &Asked<'_>,
     reader: &mut Reader<RecordSource<R>>,
     row: &mut ByteRecord,
+    out: &mut SafeText,
     answers: &mut W,
 ) -> Result<Came, ExplainFault>
     ensures come { (bytes : Option (List ℕ)) → ReadsFrom (left_of R.remaining) reader.old bytes []
@@ -112,7 +110,10 @@ fn explain_records<R: Read, W: Write>(
     };
     for turn in 0..u64::MAX {
         match next_record(reader, row) {
-            Ok(true) => explain_record(asked, reader, row, turn + 1, &mut came, answers)?,
+            Ok(true) => {
+                explain_record(asked, reader, row, turn + 1, &mut came, out)?;
+                out.pass_on(answers)?;
+            }
             Ok(false) => return Ok(came),
             Err(fault) => return Err(ExplainFault::Record(fault)),
         }
@@ -121,13 +122,13 @@ fn explain_records<R: Read, W: Write>(
 }
 
 /// Counts the record of a number, and reports it if it is wrong.
-fn explain_record<R: Read, W: Write>(
+fn explain_record<R: Read>(
     asked: &Asked<'_>,
     reader: &Reader<RecordSource<R>>,
     row: &ByteRecord,
     number: u64,
     came: &mut Came,
-    answers: &mut W,
+    out: &mut SafeText,
 ) -> Result<(), ExplainFault>
     requires room { came.old.records < 2 ^ 64 - 1 }
     requires within { came.old.refused ≤ came.old.records }
@@ -135,31 +136,28 @@ fn explain_record<R: Read, W: Write>(
     ensures records { came.new.records ≡ came.old.records + 1 }
     ensures come { (seen : List Record) → HaveCome asked.now.roster.now seen came.old
         → HaveCome asked.now.roster.now (seen ++ fields_of row.now ∷ []) came.new }
-    ensures safe { Writes IsSafe (W.contents answers.old) (W.contents answers.new) result }
 {
     let due = came.walk.due;
     came.records += 1;
     match came.walk.next(row, asked.roster) {
         Some(trouble) => {
             came.refused += 1;
-            tell_trouble(asked, reader, number, row, due, trouble, answers)
+            tell_trouble(asked, reader, number, row, due, trouble, out)
         }
         None => Ok(()),
     }
 }
 
 /// Reports a wrong record by its number.
-fn tell_trouble<R: Read, W: Write>(
+fn tell_trouble<R: Read>(
     asked: &Asked<'_>,
     reader: &Reader<RecordSource<R>>,
     number: u64,
     row: &ByteRecord,
     due: PlanDue,
     trouble: PlanTrouble,
-    answers: &mut W,
-) -> Result<(), ExplainFault>
-    ensures safe { Writes IsSafe (W.contents answers.old) (W.contents answers.new) result }
-{
+    out: &mut SafeText,
+) -> Result<(), ExplainFault> {
     let Some(record) = record_of(reader) else {
         return Err(TOO_LONG);
     };
@@ -167,65 +165,31 @@ fn tell_trouble<R: Read, W: Write>(
     let Some(point) = refusal.point() else {
         return Err(TOO_LONG);
     };
-    tell_refusal(asked.alloc, asked.form, &refusal, point, answers).map_err(ExplainFault::Show)
+    tell_refusal(&refusal, point, out)?;
+    Ok(())
 }
 
-/// Reports which record is missing at the end of the text, and how many there were.
-fn tell_end<W: Write>(
+/// Reports which record is missing at the end of the text, how many there were, and how many of them were wrong.
+fn tell_end(
     came: &Came,
     asked: &Asked<'_>,
     end: Point,
-    answers: &mut W,
-) -> Result<Ending, ShowFault>
+    out: &mut SafeText,
+) -> Result<Ending, AllocError>
     ensures ending { IfOk result (λ ended. ended ≡ ending_if (is_done came.now)) }
-    ensures safe { Writes IsSafe (W.contents answers.old) (W.contents answers.new) result }
 {
+    let file = asked.file;
     let missing = missing_at(came.walk.due);
-    tell_due(asked, missing, end, answers)?;
-    tell_sum(came, asked, answers)?;
+    if let Some(expected) = missing {
+        tell_missing(file, end, CODE, expected, out)?;
+    }
+    tell_counts(file, came.records, came.refused, out)?;
+    tell_count(file, RefusalCode::Record(CODE), came.refused, out)?;
     if came.refused == 0 && missing.is_none() {
         Ok(Ending::Done)
     } else {
         Ok(Ending::Refused)
     }
-}
-
-/// Reports which record is missing at the end of the text, if one is.
-fn tell_due<W: Write>(
-    asked: &Asked<'_>,
-    missing: Option<&'static str>,
-    end: Point,
-    answers: &mut W,
-) -> Result<(), ShowFault>
-    ensures safe { Writes IsSafe (W.contents answers.old) (W.contents answers.new) result }
-{
-    match missing {
-        Some(expected) => tell_missing(
-            asked.alloc,
-            asked.form,
-            asked.file,
-            end,
-            CODE,
-            expected,
-            answers,
-        ),
-        None => Ok(()),
-    }
-}
-
-/// Reports how many records there were, and how many of them were wrong.
-fn tell_sum<W: Write>(came: &Came, asked: &Asked<'_>, answers: &mut W) -> Result<(), ShowFault>
-    ensures safe { Writes IsSafe (W.contents answers.old) (W.contents answers.new) result }
-{
-    let Asked {
-        alloc,
-        file,
-        form,
-        ..
-    } = *asked;
-    tell_counts(alloc, file, form, came.records, came.refused, answers)?;
-    let code = RefusalCode::Record(CODE);
-    tell_count(alloc, file, form, code, came.refused, answers)
 }
 
 /// Which record is missing at the end of a plan's records, if one is.

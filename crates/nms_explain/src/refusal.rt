@@ -1,20 +1,14 @@
 //! One refusal, as it is reported.
 ghost use Rattle.std.specs.Prelude.{◌≡◌, true};
 ghost use Rattle.nms_show.specs.Plain.{is_own_plain, is_plain};
-ghost use Rattle.nms_show.specs.Safe.{IsSafe};
-ghost use Rattle.nms_show.specs.Written.{Writes};
 
 use crate::line_count::LineCount;
 use crate::places::{FieldName, FieldPlace};
 use crate::refusal_code::RefusalCode;
 use crate::span::{Point, Span, point_at};
 use nms_codes::Code;
-use nms_show::{
-    Form, Item, Location, ShowFault, WrongPart, item_if_any, write_advice, write_found,
-    write_place, write_plain_line, write_plain_object, write_refused,
-};
-use std::alloc::Global;
-use std::io::Write;
+use nms_show::{Item, Location, SafeText, WrongPart, item_if_any};
+use std::alloc::AllocError;
 
 /// A refused record, with the report about it.
 #[derive(Clone, Copy)]
@@ -53,43 +47,26 @@ impl Refusal<'_> {
 }
 
 /// Writes a refusal: its place in the file, the record with carets under what is wrong, what was found and what is
-/// expected, and what to do.
-pub(crate) fn tell_refusal<W: Write>(
-    alloc: Global,
-    form: Form,
+/// expected, where a quote opens that goes on, what the record looks like instead, and what to do.
+pub(crate) fn tell_refusal(
     refusal: &Refusal<'_>,
     point: Point,
-    answers: &mut W,
-) -> Result<(), ShowFault>
+    out: &mut SafeText,
+) -> Result<(), AllocError>
     requires found { is_own_plain refusal.now.found ≡ true }
-    ensures safe { Writes IsSafe (W.contents answers.old) (W.contents answers.new) result }
 {
-    if form.is_json() {
-        return tell_object(alloc, refusal, point, answers);
+    if out.is_json() {
+        return tell_object(refusal, point, out);
     }
-    tell_place(form, refusal, point, answers)?;
-    tell_finding(form, refusal, answers)?;
-    tell_help(form, refusal, answers)
-}
-
-/// Writes where a quote opens that goes on, what the record looks like instead, and what to do.
-fn tell_help<W: Write>(form: Form, refusal: &Refusal<'_>, answers: &mut W) -> Result<(), ShowFault>
-    ensures safe { Writes IsSafe (W.contents answers.old) (W.contents answers.new) result }
-{
-    tell_quote(form, refusal, answers)?;
-    write_advice(answers, form, refusal.hint)?;
-    write_advice(answers, form, refusal.remedy)
+    tell_place(refusal, point, out)?;
+    out.found(words_round(refusal), refusal.found, refusal.expected)?;
+    tell_quote(refusal, out)?;
+    out.advice(refusal.hint)?;
+    out.advice(refusal.remedy)
 }
 
 /// Writes the line of a refusal's place, and the record with carets under what is wrong.
-fn tell_place<W: Write>(
-    form: Form,
-    refusal: &Refusal<'_>,
-    point: Point,
-    answers: &mut W,
-) -> Result<(), ShowFault>
-    ensures safe { Writes IsSafe (W.contents answers.old) (W.contents answers.new) result }
-{
+fn tell_place(refusal: &Refusal<'_>, point: Point, out: &mut SafeText) -> Result<(), AllocError> {
     let (field, number, comma, name) = words_of(refusal.field);
     let items = [
         Item::Text(": record "),
@@ -105,7 +82,7 @@ fn tell_place<W: Write>(
         end: refusal.span.end,
     };
     let at = point.of_file(refusal.file);
-    write_refused(answers, form, at, refusal.code.text(), &items, wrong)
+    out.refused(at, refusal.code.text(), &items, wrong)
 }
 
 /// The words that name a field, with its number and its name.
@@ -138,24 +115,6 @@ fn number_of<'a>(at: FieldPlace) -> Item<'a>
     }
 }
 
-/// Writes what was found, and what is expected.
-fn tell_finding<W: Write>(
-    form: Form,
-    refusal: &Refusal<'_>,
-    answers: &mut W,
-) -> Result<(), ShowFault>
-    requires found { is_own_plain refusal.now.found ≡ true }
-    ensures safe { Writes IsSafe (W.contents answers.old) (W.contents answers.new) result }
-{
-    write_found(
-        answers,
-        form,
-        words_round(refusal),
-        refusal.found,
-        refusal.expected,
-    )
-}
-
 /// The words before what was found, and those after it.
 fn words_round(refusal: &Refusal<'_>) -> (&'static str, &'static str)
     ensures before { is_plain result.0.now ≡ true }
@@ -169,9 +128,7 @@ fn words_round(refusal: &Refusal<'_>) -> (&'static str, &'static str)
 }
 
 /// Writes where a quote opens a field that goes on over a line end, if one does.
-fn tell_quote<W: Write>(form: Form, refusal: &Refusal<'_>, answers: &mut W) -> Result<(), ShowFault>
-    ensures safe { Writes IsSafe (W.contents answers.old) (W.contents answers.new) result }
-{
+fn tell_quote(refusal: &Refusal<'_>, out: &mut SafeText) -> Result<(), AllocError> {
     let Some(point) = refusal.quote else {
         return Ok(());
     };
@@ -184,18 +141,12 @@ fn tell_quote<W: Write>(form: Form, refusal: &Refusal<'_>, answers: &mut W) -> R
             " opens a field that goes on over commas and line ends, to the next quote or to the end",
         ),
     ];
-    write_plain_line(answers, form, &items)
+    out.line(&items)
 }
 
 /// Writes a refusal as a JSON object.
-fn tell_object<W: Write>(
-    alloc: Global,
-    refusal: &Refusal<'_>,
-    point: Point,
-    answers: &mut W,
-) -> Result<(), ShowFault>
+fn tell_object(refusal: &Refusal<'_>, point: Point, out: &mut SafeText) -> Result<(), AllocError>
     requires found { is_own_plain refusal.now.found ≡ true }
-    ensures safe { Writes IsSafe (W.contents answers.old) (W.contents answers.new) result }
 {
     let (number, name) = field_items(refusal.field);
     let (line, column) = point_items(refusal.quote);
@@ -216,7 +167,7 @@ fn tell_object<W: Write>(
         ("quote_line", line),
         ("quote_column", column),
     ];
-    write_plain_object(alloc, answers, &members)
+    out.object(&members)
 }
 
 /// The number of a field and its name, if there is one.
@@ -242,18 +193,14 @@ fn point_items<'a>(point: Option<Point>) -> (Item<'a>, Item<'a>)
 }
 
 /// Writes that a text ends where a record is expected.
-pub(crate) fn tell_missing<'a, W: Write>(
-    alloc: Global,
-    form: Form,
+pub(crate) fn tell_missing<'a>(
     file: &'a str,
     end: Point,
     code: Code,
     expected: &'a str,
-    answers: &mut W,
-) -> Result<(), ShowFault>
-    ensures safe { Writes IsSafe (W.contents answers.old) (W.contents answers.new) result }
-{
-    if form.is_json() {
+    out: &mut SafeText,
+) -> Result<(), AllocError> {
+    if out.is_json() {
         let members = [
             ("what", Item::Text("missing")),
             ("file", Item::Bytes(file.as_bytes())),
@@ -263,12 +210,12 @@ pub(crate) fn tell_missing<'a, W: Write>(
             ("expected", Item::Bytes(expected.as_bytes())),
             ("remedy", Item::Bytes(code.remedy().as_bytes())),
         ];
-        return write_plain_object(alloc, answers, &members);
+        return out.object(&members);
     }
     let items = [
         Item::Text(": the text ends; expected "),
         Item::Bytes(expected.as_bytes()),
     ];
-    write_place(answers, form, end.of_file(file), code.text(), &items)?;
-    write_advice(answers, form, code.remedy())
+    out.place(end.of_file(file), code.text(), &items)?;
+    out.advice(code.remedy())
 }

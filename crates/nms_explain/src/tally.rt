@@ -1,15 +1,12 @@
 //! How many records were read, and how many were refused by each code.
 ghost use Rattle.std.specs.Prelude.{◌≡◌, ◌<◌, ◌+◌, ◌-◌, ◌^◌, ◌||◌, false};
 ghost use Rattle.nms_explain.specs.Counted.{IsWithin, publishes};
-ghost use Rattle.nms_show.specs.Safe.{IsSafe};
-ghost use Rattle.nms_show.specs.Written.{Writes};
 
 use crate::refusal_code::RefusalCode;
 use nms_codes::Code;
 use nms_lines::{Line, LineFault};
-use nms_show::{Form, Item, ShowFault, write_plain_line, write_plain_object};
-use std::alloc::Global;
-use std::io::Write;
+use nms_show::{Item, SafeText};
+use std::alloc::AllocError;
 
 /// How many faults a record may have. The place of each is below it, so that a new fault needs a greater one.
 const FAULT_COUNT: usize = 11;
@@ -91,20 +88,11 @@ impl Tally {
     }
 
     /// Writes how many records there were, and how many were refused by each code.
-    pub(crate) fn tell<W: Write>(
-        &self,
-        alloc: Global,
-        file: &str,
-        form: Form,
-        answers: &mut W,
-    ) -> Result<(), ShowFault>
-        ensures safe { Writes IsSafe (W.contents answers.old) (W.contents answers.new) result }
-    {
-        tell_counts(alloc, file, form, self.records, self.refused, answers)?;
+    pub(crate) fn tell(&self, file: &str, out: &mut SafeText) -> Result<(), AllocError> {
+        tell_counts(file, self.records, self.refused, out)?;
         for fault in FAULTS {
-            let count = self.count(fault);
             let code = RefusalCode::Record(Code::of_line(fault));
-            tell_count(alloc, file, form, code, count, answers)?;
+            tell_count(file, code, self.count(fault), out)?;
         }
         Ok(())
     }
@@ -145,89 +133,65 @@ fn place_of_fault(fault: LineFault) -> usize
 }
 
 /// Writes how many records a file has, and how many of them were refused.
-pub(crate) fn tell_counts<W: Write>(
-    alloc: Global,
+pub(crate) fn tell_counts(
     file: &str,
-    form: Form,
     records: u64,
     refused: u64,
-    answers: &mut W,
-) -> Result<(), ShowFault>
-    ensures safe { Writes IsSafe (W.contents answers.old) (W.contents answers.new) result }
-{
-    if form.is_json() {
-        let members = [
+    out: &mut SafeText,
+) -> Result<(), AllocError> {
+    let file = Item::Bytes(file.as_bytes());
+    if out.is_json() {
+        return out.object(&[
             ("what", Item::Text("summary")),
-            ("file", Item::Bytes(file.as_bytes())),
+            ("file", file),
             ("records", Item::Number(records)),
             ("refused", Item::Number(refused)),
-        ];
-        return write_plain_object(alloc, answers, &members);
+        ]);
     }
-    let items = [
-        Item::Bytes(file.as_bytes()),
+    out.line(&[
+        file,
         Item::Text(": records: "),
         Item::Number(records),
         Item::Text("; refused: "),
         Item::Number(refused),
-    ];
-    write_plain_line(answers, form, &items)
+    ])
 }
 
 /// Writes how many records were refused by a code, if any were.
-pub(crate) fn tell_count<'a, W: Write>(
-    alloc: Global,
+pub(crate) fn tell_count<'a>(
     file: &'a str,
-    form: Form,
     code: RefusalCode,
     count: u64,
-    answers: &mut W,
-) -> Result<(), ShowFault>
-    ensures safe { Writes IsSafe (W.contents answers.old) (W.contents answers.new) result }
-{
+    out: &mut SafeText,
+) -> Result<(), AllocError> {
     if count == 0 {
         return Ok(());
     }
-    if form.is_json() {
-        let members = [
+    let (code, count) = (Item::Text(code.text()), Item::Number(count));
+    if out.is_json() {
+        return out.object(&[
             ("what", Item::Text("count")),
             ("file", Item::Bytes(file.as_bytes())),
-            ("code", Item::Text(code.text())),
-            ("records", Item::Number(count)),
-        ];
-        return write_plain_object(alloc, answers, &members);
+            ("code", code),
+            ("records", count),
+        ]);
     }
-    let items = [
-        Item::Text("    "),
-        Item::Text(code.text()),
-        Item::Text(": "),
-        Item::Number(count),
-    ];
-    write_plain_line(answers, form, &items)
+    out.line(&[Item::Text("    "), code, Item::Text(": "), count])
 }
 
 /// Writes a remark on the whole file.
-pub(crate) fn tell_remark<'a, W: Write>(
-    alloc: Global,
+pub(crate) fn tell_remark<'a>(
     file: &'a str,
-    form: Form,
     remark: &'a str,
-    answers: &mut W,
-) -> Result<(), ShowFault>
-    ensures safe { Writes IsSafe (W.contents answers.old) (W.contents answers.new) result }
-{
-    if form.is_json() {
-        let members = [
+    out: &mut SafeText,
+) -> Result<(), AllocError> {
+    let (file, remark) = (Item::Bytes(file.as_bytes()), Item::Bytes(remark.as_bytes()));
+    if out.is_json() {
+        return out.object(&[
             ("what", Item::Text("remark")),
-            ("file", Item::Bytes(file.as_bytes())),
-            ("remark", Item::Bytes(remark.as_bytes())),
-        ];
-        return write_plain_object(alloc, answers, &members);
+            ("file", file),
+            ("remark", remark),
+        ]);
     }
-    let items = [
-        Item::Bytes(file.as_bytes()),
-        Item::Text(": "),
-        Item::Bytes(remark.as_bytes()),
-    ];
-    write_plain_line(answers, form, &items)
+    out.line(&[file, Item::Text(": "), remark])
 }

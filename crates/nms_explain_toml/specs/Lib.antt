@@ -1,5 +1,5 @@
 pub mod Blanks
-pub mod Documents
+pub mod Kinds
 pub mod Ended
 pub mod Lines
 pub mod Marking

@@ -27,6 +27,12 @@ pub fn write_marked<'a, W: Write>(
     requires items { list_all is_own_plain items.now ≡ true }
     ensures safe { Writes IsSafe (W.contents answers.old) (W.contents answers.new) result }
 {
+    let (at, wrong) = place_in(file, marked);
+    write_refused(answers, form, at, code, items, wrong)
+}
+
+/// The place of what is marked in a file, and its line.
+pub(crate) fn place_in<'a>(file: &'a str, marked: Marked<'a>) -> (Location<'a>, WrongPart<'a>) {
     let at = Location {
         file,
         line: marked.number,
@@ -37,7 +43,7 @@ pub fn write_marked<'a, W: Write>(
         start: marked.pair.start,
         end: marked.pair.end,
     };
-    write_refused(answers, form, at, code, items, wrong)
+    (at, wrong)
 }
 
 /// Writes what stands at a key of a document, and what is expected there; if the text is no document, the parser's message. It

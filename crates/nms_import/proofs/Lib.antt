@@ -3,3 +3,4 @@ mod RowFacts
 mod TextFacts
 mod TimeFacts
 mod ShowFacts
+pub mod NameFacts

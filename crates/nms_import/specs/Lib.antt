@@ -3,10 +3,15 @@ pub mod Mapping
 pub mod Rows
 pub mod Imported
 pub mod Examples
+pub mod FaultExamples
 pub mod Causes
 pub mod LastLines
 pub mod Noted
 pub mod Refusals
 pub mod Telling
-pub mod Tables
+pub mod Keys
+pub mod Drafts
+pub mod Forms
+pub mod Findings
+pub mod Readings
 pub mod Placing

@@ -5,6 +5,7 @@ ghost use Rattle.nms_import.specs.Mapping.{column_text};
 
 use csv::ByteRecord;
 use nms_lines::field_at;
+use std::alloc::Global;
 
 /// Where a text of a row comes from.
 #[derive(Drop)]
@@ -57,6 +58,27 @@ impl Drop for Columns {
             condition: _,
             skip: _,
         } = self;
+    }
+}
+
+impl Columns {
+    /// No column: the empty text in each of them.
+    pub(crate) fn none(alloc: Global) -> Columns
+        ensures { result.width ≡ 0 }
+    {
+        Columns {
+            width: 0,
+            time: Column::Fixed(Vec::new(alloc)),
+            participant: Column::Fixed(Vec::new(alloc)),
+            symbol: Column::Fixed(Vec::new(alloc)),
+            bid: Column::Fixed(Vec::new(alloc)),
+            bid_size: Column::Fixed(Vec::new(alloc)),
+            offer: Column::Fixed(Vec::new(alloc)),
+            offer_size: Column::Fixed(Vec::new(alloc)),
+            source: Column::Fixed(Vec::new(alloc)),
+            condition: Column::Fixed(Vec::new(alloc)),
+            skip: Column::Fixed(Vec::new(alloc)),
+        }
     }
 }
 

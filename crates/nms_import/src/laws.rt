@@ -1,7 +1,13 @@
 //! Laws above the definitions. Each function does nothing: its contract is the law.
 ghost use Rattle.nms_import.specs.Examples.{ExamplesHold};
+ghost use Rattle.nms_import.specs.FaultExamples.{FaultExamplesHold};
 
 /// The definitions of times give what the worked examples say.
 pub fn worked_examples()
     ensures { ExamplesHold }
+{}
+
+/// The definitions of faults of mappings give what the worked examples say.
+pub fn worked_faults()
+    ensures { FaultExamplesHold }
 {}

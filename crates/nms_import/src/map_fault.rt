@@ -1,50 +1,50 @@
 //! Why a mapping is refused: `specs/Refusals`.
-ghost use Rattle.std.specs.Prelude.{◌≡◌, ◌≢◌, ◌⊎◌, Err, IfErr, IfOk, IsOk, Ok, true};
+ghost use Rattle.std.specs.Prelude.{◌≡◌, true};
 ghost use Rattle.nms_show.specs.Plain.{is_plain};
-ghost use Rattle.nms_import.specs.Refusals as refusal;
-ghost use Rattle.nms_import.specs.Refusals.{code_of, is_of_document, is_of_first_row, refusal_of};
+ghost use Rattle.nms_import.specs.Refusals.{code_of, wrong_code};
 
-use std::alloc::{AllocError, Global};
+use std::alloc::AllocError;
 
-/// Why a mapping is refused: the first fault that is found, table by table.
-#[derive(Drop)]
-pub enum MapFault {
+/// What is wrong at a key.
+#[derive(Clone, Copy, PartialEq, Eq)]
+pub enum Wrong {
+    /// M2: it is needed, and absent.
+    Missing,
+    /// M3: there is no such key.
+    Unknown,
+    /// M4: its value is not one of those that are allowed.
+    BadValue,
+}
+
+/// A fault of a mapping's document, and its place there.
+#[derive(Clone, Copy)]
+pub struct Finding<'a> {
+    /// The table's name, empty for the document itself.
+    pub table: &'static str,
+    /// The key's name.
+    pub key: &'a str,
+    /// The place in the key's list, if a word of it is wrong.
+    pub word: Option<usize>,
+    /// What is wrong.
+    pub wrong: Wrong,
+    /// What is expected there; empty for an unknown key, where it is any other (`keys_text`).
+    pub expected: &'static str,
+}
+
+/// Why a mapping is refused.
+#[derive(Clone, Copy)]
+pub enum MapFault<'a> {
     /// M1: the text is no TOML document, from this line on.
     NotToml {
         /// The line, from 1.
         line: u64,
     },
-    /// M2: a table lacks a key that it needs.
-    Missing {
-        /// The table's name.
-        table: &'static str,
-        /// The key's name.
-        key: String,
-        /// What is expected there.
-        expected: &'static str,
-    },
-    /// M3: a table has a key that is not known, or there is such a table.
-    Unknown {
-        /// The table's name, empty for the document itself.
-        table: &'static str,
-        /// The key's name.
-        key: String,
-        /// What is expected there.
-        expected: &'static str,
-    },
-    /// M4: a value is not one of those that are allowed.
-    BadValue {
-        /// The table's name.
-        table: &'static str,
-        /// The key's name.
-        key: String,
-        /// What is expected there.
-        expected: &'static str,
-    },
-    /// M5: the file's first line has no column of that name.
+    /// M2 to M4: a fault of the document.
+    Refused(Finding<'a>),
+    /// M5: the file's first line has no column of that name, or has it twice.
     NoColumn {
         /// The key of the table `column`.
-        key: String,
+        key: &'static str,
         /// What is expected there.
         expected: &'static str,
     },
@@ -52,7 +52,21 @@ pub enum MapFault {
     NoMemory,
 }
 
-impl MapFault {
+impl Wrong {
+    /// Its code, `M2` to `M4`.
+    pub fn code(self) -> &'static str
+        ensures code { result.now ≡ wrong_code self }
+        ensures plain { is_plain result.now ≡ true }
+    {
+        match self {
+            Wrong::Missing => "M2",
+            Wrong::Unknown => "M3",
+            Wrong::BadValue => "M4",
+        }
+    }
+}
+
+impl MapFault<'_> {
     /// Its code, `M1` to `M6`.
     pub fn code(&self) -> &'static str
         ensures code { result.now ≡ code_of self.now }
@@ -60,109 +74,20 @@ impl MapFault {
     {
         match self {
             MapFault::NotToml { .. } => "M1",
-            MapFault::Missing { .. } => "M2",
-            MapFault::Unknown { .. } => "M3",
-            MapFault::BadValue { .. } => "M4",
+            MapFault::Refused(finding) => finding.wrong.code(),
             MapFault::NoColumn { .. } => "M5",
             MapFault::NoMemory => "M6",
         }
     }
-
-    /// A table lacks a key.
-    pub(crate) fn missing(
-        alloc: Global,
-        table: &'static str,
-        key: &str,
-        expected: &'static str,
-    ) -> MapFault
-        ensures fault { result ≢ MapFault.NoMemory → refusal_of result ≡ refusal.missing table.now key.now expected.now }
-        ensures kind { is_of_document result ≡ true }
-    {
-        match String::from_str(alloc, key) {
-            Ok(key) => MapFault::Missing {
-                table,
-                key,
-                expected,
-            },
-            Err(_) => MapFault::NoMemory,
-        }
-    }
-
-    /// A table has another key.
-    pub(crate) fn unknown(
-        alloc: Global,
-        table: &'static str,
-        key: &str,
-        expected: &'static str,
-    ) -> MapFault
-        ensures fault { result ≢ MapFault.NoMemory → refusal_of result ≡ refusal.unknown table.now key.now expected.now }
-        ensures kind { is_of_document result ≡ true }
-    {
-        match String::from_str(alloc, key) {
-            Ok(key) => MapFault::Unknown {
-                table,
-                key,
-                expected,
-            },
-            Err(_) => MapFault::NoMemory,
-        }
-    }
-
-    /// A value is not allowed.
-    pub(crate) fn bad_value(
-        alloc: Global,
-        table: &'static str,
-        key: &str,
-        expected: &'static str,
-    ) -> MapFault
-        ensures fault { result ≢ MapFault.NoMemory → refusal_of result ≡ refusal.bad_value table.now key.now expected.now }
-        ensures kind { is_of_document result ≡ true }
-    {
-        match String::from_str(alloc, key) {
-            Ok(key) => MapFault::BadValue {
-                table,
-                key,
-                expected,
-            },
-            Err(_) => MapFault::NoMemory,
-        }
-    }
-
-    /// The file has no such column.
-    pub(crate) fn no_column(alloc: Global, key: &str, expected: &'static str) -> MapFault
-        ensures { result ≢ MapFault.NoMemory → refusal_of result ≡ refusal.no_column key.now expected.now }
-    {
-        match String::from_str(alloc, key) {
-            Ok(key) => MapFault::NoColumn { key, expected },
-            Err(_) => MapFault::NoMemory,
-        }
-    }
 }
 
-/// Both of two results, or the fault of the first that has one.
-pub fn both<T: Drop, U: Drop>(
-    one: Result<T, MapFault>,
-    other: Result<U, MapFault>,
-) -> Result<(T, U), MapFault>
-    ensures found { IfOk result (λ found. (one ≡ Ok found.0) × (other ≡ Ok found.1)) }
-    ensures refused { IfErr result (λ fault. (one ≡ Err fault) ⊎ (IsOk one × (other ≡ Err fault))) }
-    ensures document { IfErr one (λ fault. is_of_document fault ≡ true) → IfErr other (λ fault. is_of_document fault ≡ true)
-        → IfErr result (λ fault. is_of_document fault ≡ true) }
-    ensures first_row { IfErr one (λ fault. is_of_first_row fault ≡ true) → IfErr other (λ fault. is_of_first_row fault ≡ true)
-        → IfErr result (λ fault. is_of_first_row fault ≡ true) }
-{
-    let one = match one {
-        Ok(one) => one,
-        Err(fault) => return Err(fault),
-    };
-    match other {
-        Ok(other) => Ok((one, other)),
-        Err(fault) => Err(fault),
-    }
-}
+impl From<AllocError> for MapFault<'_> {
+    ghost use Rattle.std.specs.Prelude.{◌≡◌};
+    ghost use Rattle.nms_import.specs.declared.map_fault.MapFault.TheVariants.{NoMemory};
 
-impl From<AllocError> for MapFault {
-    fn from(_error: AllocError) -> MapFault {
+    ghost from_gives = { λ _ fault. fault ≡ NoMemory };
+
+    fn from(_error: AllocError) -> Self {
         MapFault::NoMemory
     }
 }

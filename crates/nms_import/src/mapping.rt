@@ -5,8 +5,7 @@ ghost use Rattle.nms_import.specs.Placing.{IsPlaced, columns_needed};
 ghost use Rattle.nms_import.specs.Refusals.{is_of_first_row};
 
 use crate::column::{Column, Columns};
-use crate::map_fault::{MapFault, both};
-use crate::map_table::copied;
+use crate::map_fault::MapFault;
 use crate::meanings::Meanings;
 use csv::ByteRecord;
 use std::alloc::Global;
@@ -58,6 +57,8 @@ impl Drop for Source {
 
 /// What a mapping says of the columns.
 pub struct Sources {
+    /// The key of the participant's column.
+    pub(crate) participant_key: &'static str,
     pub(crate) time: Source,
     pub(crate) participant: Source,
     pub(crate) symbol: Source,
@@ -74,6 +75,7 @@ pub struct Sources {
 impl Drop for Sources {
     fn drop(self) {
         let Sources {
+            participant_key: _,
             time: _,
             participant: _,
             symbol: _,
@@ -116,6 +118,19 @@ const A_COLUMN: &str = "the name of a column of the file's first line, letter fo
 
 const ONE_COLUMN: &str = "a name that the file's first line has once";
 
+impl Source {
+    ghost use Rattle.std.specs.Prelude.{◌≡◌, true};
+    ghost use Rattle.nms_import.specs.Readings.{is_nothing, is_within};
+
+    /// The empty text in every row.
+    pub fn nothing(alloc: Global) -> Source
+        ensures nothing { is_nothing result ≡ true }
+        ensures within { is_within result ≡ true }
+    {
+        Source::Fixed(Vec::new(alloc))
+    }
+}
+
 impl Mapping {
     ghost use Rattle.std.specs.Prelude.{◌≡◌, IfErr, IfOk, true};
     ghost use Rattle.csv.specs.Records.{fields_of};
@@ -125,106 +140,24 @@ impl Mapping {
     /// The columns of a file whose first row is `names`; `names` is empty if the file has no header.
     ///
     /// `NoColumn` is the first key of the table `column` whose name the row lacks.
-    pub fn columns(&self, alloc: Global, names: &ByteRecord) -> Result<Columns, MapFault>
+    pub fn columns(&self, alloc: Global, names: &ByteRecord) -> Result<Columns, MapFault<'static>>
         ensures placed { IfOk result (λ columns. ArePlaced self.now (fields_of names.now) columns) }
         ensures fault { IfErr result (λ fault. is_of_first_row fault ≡ true) }
     {
-        let all = &self.sources;
-        let mut width = 0;
-        let quoted = places_of(
-            alloc,
-            &all.time,
-            "time",
-            &all.participant,
-            "participant",
-            names,
-            &mut width,
-        );
-        let bids = places_of(
-            alloc,
-            &all.symbol,
-            "symbol",
-            &all.bid,
-            "bid",
-            names,
-            &mut width,
-        );
-        let sizes = places_of(
-            alloc,
-            &all.bid_size,
-            "bid_size",
-            &all.offer,
-            "offer",
-            names,
-            &mut width,
-        );
-        let sources = places_of(
-            alloc,
-            &all.offer_size,
-            "offer_size",
-            &all.source,
-            "condition",
-            names,
-            &mut width,
-        );
-        let conditions = places_of(
-            alloc,
-            &all.condition,
-            "condition",
-            &all.skip,
-            "skip",
-            names,
-            &mut width,
-        );
-        let front = both(quoted, bids);
-        let back = both(sources, conditions);
-        let rest = both(sizes, back);
-        match both(front, rest) {
-            Ok(found) => {
-                let ((quoted, bids), (sizes, (sources, conditions))) = found;
-                let (time, participant) = quoted;
-                let (symbol, bid) = bids;
-                let (bid_size, offer) = sizes;
-                let (offer_size, source) = sources;
-                let (condition, skip) = conditions;
-                Ok(Columns {
-                    width,
-                    time,
-                    participant,
-                    symbol,
-                    bid,
-                    bid_size,
-                    offer,
-                    offer_size,
-                    source,
-                    condition,
-                    skip,
-                })
-            }
-            Err(fault) => Err(fault),
-        }
-    }
-}
-
-/// Where the columns of two keys stand, the first one first, as `place_of` finds them.
-pub fn places_of(
-    alloc: Global,
-    one: &Source,
-    one_key: &'static str,
-    other: &Source,
-    other_key: &'static str,
-    names: &ByteRecord,
-    width: &mut usize,
-) -> Result<(Column, Column), MapFault>
-    ensures one { IfOk result (λ found. IsPlaced one.now (fields_of names.now) found.0) }
-    ensures other { IfOk result (λ found. IsPlaced other.now (fields_of names.now) found.1) }
-    ensures width { IfOk result (λ found. width.new ≡ max (max width.old (columns_needed found.0)) (columns_needed found.1)) }
-    ensures fault { IfErr result (λ fault. is_of_first_row fault ≡ true) }
-{
-    let first = place_of(alloc, one, one_key, names, width)?;
-    match place_of(alloc, other, other_key, names, width) {
-        Ok(second) => Ok((first, second)),
-        Err(fault) => Err(fault),
+        let from = &self.sources;
+        let mut all = Columns::none(alloc);
+        let width = &mut all.width;
+        all.time = place_of(alloc, &from.time, "time", names, width)?;
+        all.participant = place_of(alloc, &from.participant, from.participant_key, names, width)?;
+        all.symbol = place_of(alloc, &from.symbol, "symbol", names, width)?;
+        all.bid = place_of(alloc, &from.bid, "bid", names, width)?;
+        all.bid_size = place_of(alloc, &from.bid_size, "bid_size", names, width)?;
+        all.offer = place_of(alloc, &from.offer, "offer", names, width)?;
+        all.offer_size = place_of(alloc, &from.offer_size, "offer_size", names, width)?;
+        all.source = place_of(alloc, &from.source, "condition", names, width)?;
+        all.condition = place_of(alloc, &from.condition, "condition", names, width)?;
+        all.skip = place_of(alloc, &from.skip, "skip", names, width)?;
+        Ok(all)
     }
 }
 
@@ -236,7 +169,7 @@ pub fn place_of(
     key: &'static str,
     names: &ByteRecord,
     width: &mut usize,
-) -> Result<Column, MapFault>
+) -> Result<Column, MapFault<'static>>
     ensures placed { IfOk result (λ column. IsPlaced source.now (fields_of names.now) column) }
     ensures width { IfOk result (λ column. width.new ≡ max width.old (columns_needed column)) }
     ensures kept { OnErr result (width.new ≡ width.old) }
@@ -248,16 +181,20 @@ pub fn place_of(
             *width = (*width).max(place + 1);
             Ok(Column::At(place))
         }
-        Source::Fixed(text) => Ok(Column::Fixed(copied(alloc, text)?)),
+        Source::Fixed(text) => Ok(Column::Fixed(Vec::from_slice(alloc, text)?)),
         Source::Named(name) => match named(names, name) {
-            Some(place) if is_later(names, name, place) => Err(MapFault::no_column(
-                alloc, key, ONE_COLUMN,
-            )),
+            Some(place) if is_later(names, name, place) => {
+                let expected = ONE_COLUMN;
+                Err(MapFault::NoColumn { key, expected })
+            }
             Some(place) => {
                 *width = (*width).max(place + 1);
                 Ok(Column::At(place))
             }
-            None => Err(MapFault::no_column(alloc, key, A_COLUMN)),
+            None => {
+                let expected = A_COLUMN;
+                Err(MapFault::NoColumn { key, expected })
+            }
         },
     }
 }

@@ -1,2 +1,1 @@
 mod RecordFacts
-mod MapFacts

@@ -29,21 +29,14 @@ pub(crate) fn is_no_trade(meanings: &TradeMeanings, condition: &[u8]) -> bool
 }
 
 /// Whether any of these letters is one of those.
-pub(crate) fn any_stands(those: &[u8], these: &[u8]) -> bool
+fn any_stands(those: &[u8], these: &[u8]) -> bool
     ensures { result ≡ list_any (has_letter those.now) these.now }
 {
     these.iter().any(|c| has_letter(those, *c))
 }
 
-/// Whether any of the letters claims a flag.
-pub(crate) fn any_claims(claims: &[Claim], letters: &[u8]) -> bool
-    ensures { result ≡ list_any (is_claim claims.now) letters.now }
-{
-    letters.iter().any(|c| is_claim(claims, *c))
-}
-
 /// Whether a letter claims any flag.
-fn is_claim(claims: &[Claim], c: u8) -> bool
+pub(crate) fn is_claim(claims: &[Claim], c: u8) -> bool
     ensures { result ≡ is_claim claims.now c }
 {
     claims.iter().any(|it| is_letter_of(it, c))
@@ -56,7 +49,7 @@ fn is_letter_of(it: &Claim, c: u8) -> bool
 }
 
 /// Whether a byte is one of the letters.
-fn has_letter(letters: &[u8], c: u8) -> bool
+pub(crate) fn has_letter(letters: &[u8], c: u8) -> bool
     ensures { result ≡ has_letter letters.now c }
 {
     letters.iter().any(|letter| *letter == c)

@@ -23,7 +23,7 @@ pub use laws::worked_examples;
 pub use trade::Trade;
 pub use trade_cause::TradeCause;
 pub use trade_columns::TradeColumns;
-pub use trade_map::{TradeMapping, is_of_trades, read_trade_mapping, trade_mapping_of};
+pub use trade_map::{TradeMapping, is_of_trades, trade_mapping_of};
 pub use trade_meanings::TradeMeanings;
 pub use trade_row::read_trade;
 pub use trade_tally::{TradeSums, TradeTally};

@@ -6,6 +6,7 @@ ghost use Rattle.nms_import_trades.specs.TradeRow.{has_name};
 use csv::ByteRecord;
 use nms_import::Column;
 use nms_trades::is_name;
+use std::alloc::Global;
 
 /// The columns that a mapping reads, in one file.
 pub struct TradeColumns {
@@ -49,6 +50,27 @@ impl Drop for TradeColumns {
             exempt: _,
             skip: _,
         } = self;
+    }
+}
+
+impl TradeColumns {
+    /// No column: no name, and the empty text in each of the others.
+    pub(crate) fn none(alloc: Global) -> TradeColumns
+        ensures { result.width ≡ 0 }
+    {
+        TradeColumns {
+            width: 0,
+            id: None,
+            time: Column::Fixed(Vec::new(alloc)),
+            participant: Column::Fixed(Vec::new(alloc)),
+            symbol: Column::Fixed(Vec::new(alloc)),
+            price: Column::Fixed(Vec::new(alloc)),
+            shares: Column::Fixed(Vec::new(alloc)),
+            side: Column::Fixed(Vec::new(alloc)),
+            condition: Column::Fixed(Vec::new(alloc)),
+            exempt: Column::Fixed(Vec::new(alloc)),
+            skip: Column::Fixed(Vec::new(alloc)),
+        }
     }
 }
 

@@ -3,7 +3,6 @@ use crate::claim::Claim;
 use nms_import::{Meanings, Word};
 
 /// What the texts of a file of trades mean.
-#[derive(Drop)]
 pub struct TradeMeanings {
     /// Times, the unit of prices, names, symbols, the last line and the words to skip, as of quotes. A participant's name
     /// may be empty: off an exchange.
@@ -26,4 +25,22 @@ pub struct TradeMeanings {
     pub marked: Vec<Word>,
     /// The words of one that is not.
     pub unmarked: Vec<Word>,
+}
+
+/// A `Drop` of its own: a function that holds one then has one call at each exit, and not one for each part (docs/GATE.md).
+impl Drop for TradeMeanings {
+    fn drop(self) {
+        let TradeMeanings {
+            common: _,
+            bought: _,
+            sold: _,
+            neither: _,
+            claims: _,
+            nothing: _,
+            no_trade: _,
+            kept: _,
+            marked: _,
+            unmarked: _,
+        } = self;
+    }
 }

@@ -7,12 +7,12 @@ use crate::call::{Call, Host};
 use crate::fault::Fault;
 use crate::notices::refuse_map;
 use crate::request::Compare;
-use crate::vendor::{Rows, map_text, open_vendor};
+use crate::vendor::{Rows, map_document, open_vendor};
 use nms_compare::{
-    CompareFault, Counts, NationalMapping, Shown, compare_rows, keys_of, read_national_mapping,
+    CompareFault, Counts, NationalMapping, Shown, compare_rows, keys_of, national_mapping_of,
     write_counts,
 };
-use nms_import::MapFault;
+use nms_import::Kind;
 use nms_quote::{Change, Roster};
 use nms_show::Ending;
 use std::alloc::Global;
@@ -36,17 +36,13 @@ pub(crate) fn serve_compare<T: Host, W: Write>(
     answers: &mut W,
 ) -> Result<Ending, Fault> {
     let text = call.read(compare.map)?;
-    match mapping_of(call.alloc(), &text) {
+    let document = match map_document(call.alloc(), &text) {
+        Ok(document) => document,
+        Err(fault) => return refuse_map(call, compare.map, Kind::Bests, &fault),
+    };
+    match national_mapping_of(call.alloc(), &document) {
         Ok(mapping) => compare_by(call, compare, &mapping, answers),
-        Err(fault) => refuse_map(call, compare.map, &fault),
-    }
-}
-
-/// The mapping given by a text.
-fn mapping_of(alloc: Global, text: &[u8]) -> Result<NationalMapping, MapFault> {
-    match map_text(text) {
-        Ok(text) => read_national_mapping(alloc, text),
-        Err(fault) => Err(fault),
+        Err(fault) => refuse_map(call, compare.map, Kind::Bests, &fault),
     }
 }
 
@@ -85,7 +81,7 @@ fn compare_with<T: Host, W: Write>(
 ) -> Result<Ending, Fault> {
     let vendor = match mapping.vendor(call.alloc(), &rows.names) {
         Ok(vendor) => vendor,
-        Err(fault) => return refuse_map(call, compare.national, &fault),
+        Err(fault) => return refuse_map(call, compare.national, Kind::Bests, &fault),
     };
     let mut shown = Shown::new(answers, compare.national.name);
     let compared = compare_rows(

@@ -11,11 +11,12 @@ use crate::outputs::{SHARD, check_outputs, create, flush, publish_shards, remove
 use crate::request::{Import, Path};
 use crate::vendor::{Rows, fault_in, open_vendor};
 use csv::ByteRecord;
-use nms_import::{Columns, ImportFault, MapFault, Mapping, Order};
+use nms_import::{Columns, Finding, ImportFault, Kind, MapFault, Mapping, Order, Wrong};
 use nms_shards::{
     Cutting, LEAST_LIMIT, Shard, begin_shard, import_shard, write_listed, write_setup,
 };
-use nms_show::{Ending, Form, Item, write_line};
+use nms_show::{Ending, Form, Item, SafeText, write_line};
+use std::alloc::AllocError;
 use std::io::Write;
 
 /// The shard that is being written, and what is kept from one of the vendor's files to the next.
@@ -64,17 +65,14 @@ pub(crate) fn cut_files<T: Host, W: Write>(
 
 /// Reports that the mapping's order is not by symbol.
 fn refuse_order<T: Host>(call: &Call<'_, T>, import: &Import<'_>) -> Result<Ending, Fault> {
-    match String::from_str(call.alloc(), "order") {
-        Ok(key) => {
-            let fault = MapFault::BadValue {
-                table: "time",
-                key,
-                expected: "\"symbol\" with --shards: rows sorted by symbol",
-            };
-            refuse_map(call, import.map, &fault)
-        }
-        Err(_) => Err(Fault::no_memory()),
-    }
+    let fault = MapFault::Refused(Finding {
+        table: "time",
+        key: "order",
+        word: None,
+        wrong: Wrong::BadValue,
+        expected: "\"symbol\" with --shards: rows sorted by symbol",
+    });
+    refuse_map(call, import.map, Kind::Quotes, &fault)
 }
 
 /// Begins the first shard.
@@ -212,15 +210,22 @@ impl<'a, T: Host> Shards<'a, T, T::File> {
 
     /// Writes what is left of the shard, its symbols and its setup.
     fn finish_shard(&mut self) -> Result<(), Fault> {
-        let (call, out, shard) = (self.call, self.import.out, self.shards);
+        let (call, shard) = (self.call, self.shards);
         flush(&mut self.changes, of_shard(shard, ".changes"))?;
         flush(&mut self.times, of_shard(shard, ".times"))?;
+        let mut text = SafeText::new(call.alloc(), Form::Text { colours: false });
+        self.write_texts(&mut text)
+    }
+
+    /// Writes the symbols of the shard and its setup.
+    fn write_texts(&mut self, text: &mut SafeText) -> Result<(), Fault> {
+        let (call, out, shard) = (self.call, self.import.out, self.shards);
         let mut symbols = create(call, out, of_shard(shard, ".symbols"))?;
-        let written = write_listed(&mut symbols, &self.cutting);
-        finish(&mut symbols, of_shard(shard, ".symbols"), written)?;
+        let written = write_listed(text, &self.cutting);
+        finish(&mut symbols, of_shard(shard, ".symbols"), written, text)?;
         let mut setup = create(call, out, of_shard(shard, ".toml"))?;
-        let written = write_setup(&mut setup, call.setup, &self.cutting);
-        finish(&mut setup, of_shard(shard, ".toml"), written)
+        let written = write_setup(text, call.setup, &self.cutting);
+        finish(&mut setup, of_shard(shard, ".toml"), written, text)
     }
 }
 
@@ -234,15 +239,19 @@ fn sum_of(count: u64, more: u64) -> Result<u64, Fault> {
     count.checked_add(more).ok_or(too_long())
 }
 
-/// Writes out what is kept back of an output that was written so.
+/// Writes a text to its file, if memory sufficed for it.
 fn finish<W: Write>(
     file: &mut W,
     output: Output,
-    written: Result<(), ImportFault>,
+    written: Result<(), AllocError>,
+    text: &mut SafeText,
 ) -> Result<(), Fault> {
-    match written {
+    if written.is_err() {
+        return Err(Fault::no_memory());
+    }
+    match text.pass_on(file) {
         Ok(()) => flush(file, output),
-        Err(fault) => Err(fault_in(fault, About::Nothing).in_output(output)),
+        Err(_) => Err(Fault::unwritten(About::Out(output))),
     }
 }
 

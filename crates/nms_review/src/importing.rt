@@ -3,18 +3,19 @@ use crate::answers::Answers;
 use crate::call::{Call, Host};
 use crate::cutting::cut_files;
 use crate::fault::{About, Fault, Output};
-use crate::importing_trades::{is_trade_map, serve_trade_map};
+use crate::importing_trades::serve_trade_map;
 use crate::notices::{
     note_built_in, note_odd_hours, note_short, refuse_columns, refuse_map, show_kept,
 };
 use crate::outputs::{QUOTES, check_outputs, create, flush, publish, remove_parts};
 use crate::request::{Import, Path};
-use crate::vendor::{Rows, fault_in, map_text, open_vendor};
+use crate::vendor::{Rows, fault_in, map_document, open_vendor};
 use nms_codes::Code;
 use nms_import::{
-    Guard, ImportFault, Left, MapFault, Mapping, Notes, Sums, Tally, Told, Work, import_rows,
-    read_mapping, write_symbols, write_tally,
+    Guard, ImportFault, Kind, Left, Mapping, Notes, Sums, Tally, Told, Work, import_rows,
+    mapping_of, write_symbols, write_tally,
 };
+use nms_import_trades::is_of_trades;
 use nms_show::Ending;
 use std::alloc::Global;
 use std::io::Write;
@@ -42,20 +43,16 @@ pub(crate) fn serve_import<T: Host, W: Write>(
     answers: &mut W,
 ) -> Result<Ending, Fault> {
     let text = call.read(import.map)?;
-    if is_trade_map(call.alloc(), &text) {
-        return serve_trade_map(call, import, &text, answers);
+    let document = match map_document(call.alloc(), &text) {
+        Ok(document) => document,
+        Err(fault) => return refuse_map(call, import.map, Kind::Quotes, &fault),
+    };
+    if is_of_trades(&document) {
+        return serve_trade_map(call, import, &document, answers);
     }
-    match mapping_of(call.alloc(), &text) {
+    match mapping_of(call.alloc(), &document) {
         Ok(mapping) => import_quotes(call, import, &mapping, answers),
-        Err(fault) => refuse_map(call, import.map, &fault),
-    }
-}
-
-/// The mapping given by a text.
-fn mapping_of(alloc: Global, text: &[u8]) -> Result<Mapping, MapFault> {
-    match map_text(text) {
-        Ok(text) => read_mapping(alloc, text),
-        Err(fault) => Err(fault),
+        Err(fault) => refuse_map(call, import.map, Kind::Quotes, &fault),
     }
 }
 

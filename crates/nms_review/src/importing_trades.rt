@@ -7,40 +7,20 @@ use crate::importing::too_long;
 use crate::notices::{note_built_in, note_short, refuse_columns, refuse_map, show_kept};
 use crate::outputs::{TRADES, check_outputs, create, flush, publish, remove_parts};
 use crate::request::{Import, Path};
-use crate::vendor::{Rows, fault_in, map_text, open_vendor};
+use crate::vendor::{Rows, fault_in, open_vendor};
 use nms_codes::Code;
-use nms_import::{MapFault, document_of};
+use nms_import::{Kind, Table};
 use nms_import_trades::{
-    TradeMapping, TradeSums, TradeTally, TradeTold, TradeWork, import_trades, is_of_trades,
-    read_trade_mapping, write_trade_tally,
+    TradeMapping, TradeSums, TradeTally, TradeTold, TradeWork, import_trades, trade_mapping_of,
+    write_trade_tally,
 };
 use nms_show::Ending;
-use std::alloc::Global;
 use std::io::Write;
 
 const EXECUTIONS: Output = Output {
     shard: 0,
     end: ".executions",
 };
-
-/// Whether a text is a mapping of trades. A text that can't be read is not: it is refused as a mapping of quotes.
-pub(crate) fn is_trade_map(alloc: Global, text: &[u8]) -> bool {
-    let Ok(text) = map_text(text) else {
-        return false;
-    };
-    match document_of(alloc, text) {
-        Ok(document) => is_of_trades(&document),
-        Err(_) => false,
-    }
-}
-
-/// The mapping of trades given by a text.
-fn trade_map_of(alloc: Global, text: &[u8]) -> Result<TradeMapping, MapFault> {
-    match map_text(text) {
-        Ok(text) => read_trade_mapping(alloc, text),
-        Err(fault) => Err(fault),
-    }
-}
 
 /// Executions that are made in one file, and what is kept from one of the vendor's files to the next.
 #[derive(Drop)]
@@ -54,11 +34,11 @@ struct Executions<'a, T, F> {
     tally: TradeTally,
 }
 
-/// Makes executions of a vendor's files, by the mapping of a text.
+/// Makes executions of a vendor's files, by the mapping of a document.
 pub(crate) fn serve_trade_map<T: Host, W: Write>(
     call: &Call<'_, T>,
     import: &Import<'_>,
-    text: &[u8],
+    document: &Table,
     answers: &mut W,
 ) -> Result<Ending, Fault> {
     if import.rows || import.shards {
@@ -67,9 +47,9 @@ pub(crate) fn serve_trade_map<T: Host, W: Write>(
             "a mapping of trades takes no --rows and no --shards",
         ));
     }
-    match trade_map_of(call.alloc(), text) {
+    match trade_mapping_of(call.alloc(), document) {
         Ok(mapping) => import_executions(call, import, &mapping, answers),
-        Err(fault) => refuse_map(call, import.map, &fault),
+        Err(fault) => refuse_map(call, import.map, Kind::Trades, &fault),
     }
 }
 

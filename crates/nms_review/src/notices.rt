@@ -4,7 +4,7 @@ use crate::fault::{About, Fault};
 use crate::request::{Import, Path};
 use csv::ByteRecord;
 use nms_codes::Code;
-use nms_import::MapFault;
+use nms_import::{Kind, MapFault, Wrong, keys_text};
 use nms_lines::field_at;
 use nms_show::{Ending, Form, Item, write_line};
 use std::str;
@@ -12,33 +12,26 @@ use std::str;
 /// The most names of columns that are shown.
 const MOST_NAMES: usize = 40;
 
-/// Reports why a mapping is refused, in the file that has it or lacks its columns: its table, its key and what is expected there.
-pub(crate) fn refuse_map<'x, T: Host>(
+/// Reports why a mapping of a kind is refused, in the file that has it or lacks its columns: its table, its key and what is
+/// expected there.
+pub(crate) fn refuse_map<T: Host>(
     call: &Call<'_, T>,
-    file: Path<'x>,
-    fault: &'x MapFault,
+    file: Path<'_>,
+    kind: Kind,
+    fault: &MapFault<'_>,
 ) -> Result<Ending, Fault> {
     let code = code_of(fault);
+    let others;
     let (line, table, key, expected) = match fault {
         MapFault::NotToml { line } => (Item::Number(*line), "", "", ""),
-        MapFault::Missing {
-            table,
-            key,
-            expected,
+        MapFault::Refused(finding) if finding.wrong == Wrong::Unknown => {
+            others = keys_text(call.alloc(), kind, finding.table, finding.key).map_err(
+                |_| Fault::no_memory(),
+            )?;
+            (Item::Absent, finding.table, finding.key, others.as_str())
         }
-        | MapFault::Unknown {
-            table,
-            key,
-            expected,
-        }
-        | MapFault::BadValue {
-            table,
-            key,
-            expected,
-        } => (Item::Absent, *table, key.as_str(), *expected),
-        MapFault::NoColumn { key, expected } => {
-            (Item::Absent, "column", key.as_str(), *expected)
-        }
+        MapFault::Refused(finding) => (Item::Absent, finding.table, finding.key, finding.expected),
+        MapFault::NoColumn { key, expected } => (Item::Absent, "column", *key, *expected),
         MapFault::NoMemory => return Err(Fault::of(code, About::Nothing)),
     };
     let items = [
@@ -54,7 +47,7 @@ pub(crate) fn refuse_map<'x, T: Host>(
         Item::Text(if key.is_empty() { "" } else { "] " }),
         Item::Bytes(key.as_bytes()),
         Item::Text(if key.is_empty() { "" } else { ": expected " }),
-        Item::Text(expected),
+        Item::Bytes(expected.as_bytes()),
     ];
     show_line(call, &items)?;
     Ok(Ending::SetupRefused)
@@ -64,10 +57,10 @@ pub(crate) fn refuse_map<'x, T: Host>(
 pub(crate) fn refuse_columns<T: Host>(
     call: &Call<'_, T>,
     file: Path<'_>,
-    fault: &MapFault,
+    fault: &MapFault<'_>,
     names: &ByteRecord,
 ) -> Result<Ending, Fault> {
-    let ending = refuse_map(call, file, fault)?;
+    let ending = refuse_map(call, file, Kind::Quotes, fault)?;
     let mut items = Vec::new(call.alloc());
     items
         .push(Item::Text("nms_review: its first line has"))
@@ -149,12 +142,14 @@ fn show_text<T: Host>(call: &Call<'_, T>, text: &[u8]) {
 }
 
 /// The code of what is wrong with a mapping.
-fn code_of(fault: &MapFault) -> Code {
+fn code_of(fault: &MapFault<'_>) -> Code {
     match fault {
         MapFault::NotToml { .. } => Code::M1,
-        MapFault::Missing { .. } => Code::M2,
-        MapFault::Unknown { .. } => Code::M3,
-        MapFault::BadValue { .. } => Code::M4,
+        MapFault::Refused(finding) => match finding.wrong {
+            Wrong::Missing => Code::M2,
+            Wrong::Unknown => Code::M3,
+            Wrong::BadValue => Code::M4,
+        },
         MapFault::NoColumn { .. } => Code::M5,
         MapFault::NoMemory => Code::M6,
     }

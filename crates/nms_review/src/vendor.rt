@@ -5,7 +5,10 @@ use crate::request::Path;
 use crate::source::Source;
 use csv::{ByteRecord, Reader};
 use nms_codes::Code;
-use nms_import::{FileForm, ImportFault, MapFault, RowSource, next_row, open_rows};
+use nms_import::{
+    FileForm, ImportFault, MapFault, RowSource, Table, document_of, next_row, open_rows,
+};
+use std::alloc::Global;
 use std::io::Read;
 use std::{io, str};
 
@@ -43,10 +46,10 @@ impl<T: Host, R: Read + Drop> Rows<'_, T, R> {
     }
 }
 
-/// The text of a mapping.
-pub(crate) fn map_text(bytes: &[u8]) -> Result<&str, MapFault> {
+/// The document of a mapping.
+pub(crate) fn map_document(alloc: Global, bytes: &[u8]) -> Result<Table, MapFault<'static>> {
     match str::from_utf8(bytes) {
-        Ok(text) => Ok(text),
+        Ok(text) => document_of(alloc, text),
         Err(_) => Err(MapFault::NotToml { line: 1 }),
     }
 }

@@ -1,25 +1,21 @@
 //! The two small texts beside a shard: its symbols, and its setup.
 ghost use Rattle.std.specs.Prelude.{◌<◌, ◌≡◌, ◌≤◌, ◌≤ℤ◌, length, negsuc, pos, true};
 ghost use Rattle.std.specs.List.{list_all};
-ghost use Rattle.nms_show.specs.Plain.{is_own_plain, is_plain};
-ghost use Rattle.nms_show.specs.Safe.{IsSafe};
-ghost use Rattle.nms_show.specs.Written.{Writes};
+ghost use Rattle.nms_show.specs.Plain.{is_plain};
 
 use crate::cutting::{Cutting, Listed};
 use nms_fee_book::Caps;
 use nms_fees::Setup;
-use nms_import::{ImportFault, append_clock};
+use nms_import::append_clock;
 use nms_quote::{Feed, OrderSide, Part};
-use nms_show::{Form, Item, ShowFault, write_line};
+use nms_show::{Item, SafeText};
 use nms_units::Price;
-use std::io::Write;
+use std::alloc::AllocError;
 
 /// Writes a line for each symbol of the shard: its name, and the versions after its first and its last change. For a symbol that is cut
 /// one more follows for each cut, where ` from ` or ` until ` and the time of the first change after the cut stand after the name. What
 /// is written is safe to show on a terminal.
-pub fn write_listed<W: Write>(out: &mut W, cutting: &Cutting) -> Result<(), ImportFault>
-    ensures safe { Writes IsSafe (W.contents out.old) (W.contents out.new) result }
-{
+pub fn write_listed(out: &mut SafeText, cutting: &Cutting) -> Result<(), AllocError> {
     let mut time = Vec::new(cutting.alloc());
     for listed in cutting.listed() {
         write_lines(out, &mut time, listed)?;
@@ -28,13 +24,7 @@ pub fn write_listed<W: Write>(out: &mut W, cutting: &Cutting) -> Result<(), Impo
 }
 
 /// Writes the lines of a symbol.
-fn write_lines<W: Write>(
-    out: &mut W,
-    time: &mut Vec<u8>,
-    listed: &Listed,
-) -> Result<(), ImportFault>
-    ensures { Writes IsSafe (W.contents out.old) (W.contents out.new) result }
-{
+fn write_lines(out: &mut SafeText, time: &mut Vec<u8>, listed: &Listed) -> Result<(), AllocError> {
     let none: &[u8] = &[];
     versions_line(out, listed, "", none)?;
     cut_line(out, time, listed, " from ", listed.from)?;
@@ -42,69 +32,53 @@ fn write_lines<W: Write>(
 }
 
 /// Writes the line of a cut, if there is one.
-fn cut_line<W: Write>(
-    out: &mut W,
+fn cut_line(
+    out: &mut SafeText,
     time: &mut Vec<u8>,
     listed: &Listed,
     word: &str,
     cut: Option<u64>,
-) -> Result<(), ImportFault>
-    ensures { is_plain word.now ≡ true → Writes IsSafe (W.contents out.old) (W.contents out.new) result }
+) -> Result<(), AllocError>
+    requires { is_plain word.now ≡ true }
 {
     let Some(cut) = cut else {
         return Ok(());
     };
     time.clear();
-    match append_clock(time, cut) {
-        Ok(()) => {
-            let digits = time.as_slice();
-            versions_line(out, listed, word, digits)
-        }
-        Err(_) => Err(ImportFault::NoMemory),
-    }
+    append_clock(time, cut)?;
+    versions_line(out, listed, word, time.as_slice())
 }
 
 /// Writes the name of a symbol, a word and a time, and the versions after its first and its last change.
-fn versions_line<'x, W: Write>(
-    out: &mut W,
+fn versions_line<'x>(
+    out: &mut SafeText,
     listed: &'x Listed,
     word: &'x str,
     time: &'x [u8],
-) -> Result<(), ImportFault>
-    ensures { is_plain word.now ≡ true → Writes IsSafe (W.contents out.old) (W.contents out.new) result }
+) -> Result<(), AllocError>
+    requires { is_plain word.now ≡ true }
 {
-    line(
-        out,
-        &[
-            Item::Bytes(listed.name.as_bytes()),
-            Item::Text(word),
-            Item::Bytes(time),
-            Item::Text(","),
-            Item::Number(listed.first),
-            Item::Text(","),
-            Item::Number(listed.last),
-        ],
-    )
+    out.line(&[
+        Item::Bytes(listed.name.as_bytes()),
+        Item::Text(word),
+        Item::Bytes(time),
+        Item::Text(","),
+        Item::Number(listed.first),
+        Item::Text(","),
+        Item::Number(listed.last),
+    ])
 }
 
 /// Writes the setup of the shard: the given one with the shard's symbols in place of its own. A comment at its start says how
 /// many opening changes the shard begins with. What is written is safe to show on a terminal.
-pub fn write_setup<W: Write>(
-    out: &mut W,
-    setup: &Setup,
-    cutting: &Cutting,
-) -> Result<(), ImportFault>
-    ensures safe { Writes IsSafe (W.contents out.old) (W.contents out.new) result }
-{
+pub fn write_setup(out: &mut SafeText, setup: &Setup, cutting: &Cutting) -> Result<(), AllocError> {
     write_top(out, setup, cutting)?;
     write_participants(out, setup)?;
     write_symbols(out, cutting)
 }
 
 /// Writes the comment, and the keys before the tables.
-fn write_top<W: Write>(out: &mut W, setup: &Setup, cutting: &Cutting) -> Result<(), ImportFault>
-    ensures { Writes IsSafe (W.contents out.old) (W.contents out.new) result }
-{
+fn write_top(out: &mut SafeText, setup: &Setup, cutting: &Cutting) -> Result<(), AllocError> {
     let settings = [
         ("# opening changes: ", cutting.opened()),
         ("tape_limit = ", setup.tape_limit()),
@@ -117,11 +91,8 @@ fn write_top<W: Write>(out: &mut W, setup: &Setup, cutting: &Cutting) -> Result<
 }
 
 /// Writes a line for each key, with its number.
-fn write_settings<W: Write>(
-    out: &mut W,
-    settings: &[(&'static str, u64)],
-) -> Result<(), ImportFault>
-    ensures { list_all (λ setting. is_plain setting.0.now) settings.now ≡ true → Writes IsSafe (W.contents out.old) (W.contents out.new) result }
+fn write_settings(out: &mut SafeText, settings: &[(&'static str, u64)]) -> Result<(), AllocError>
+    requires { list_all (λ setting. is_plain setting.0.now) settings.now ≡ true }
 {
     for setting in settings {
         number_line(out, setting.0, setting.1)?;
@@ -138,9 +109,7 @@ fn year_of(caps: Caps) -> u64 {
 }
 
 /// Writes a table for each participant, in order of place.
-fn write_participants<W: Write>(out: &mut W, setup: &Setup) -> Result<(), ImportFault>
-    ensures { Writes IsSafe (W.contents out.old) (W.contents out.new) result }
-{
+fn write_participants(out: &mut SafeText, setup: &Setup) -> Result<(), AllocError> {
     for place in 0..setup.roster().parts() as u8 {
         let part = Part::new(place).unwrap();
         write_participant(out, setup, part)?;
@@ -149,9 +118,8 @@ fn write_participants<W: Write>(out: &mut W, setup: &Setup) -> Result<(), Import
 }
 
 /// Writes the table of a participant.
-fn write_participant<W: Write>(out: &mut W, setup: &Setup, part: Part) -> Result<(), ImportFault>
+fn write_participant(out: &mut SafeText, setup: &Setup, part: Part) -> Result<(), AllocError>
     requires { part < length setup.now.roster.parts }
-    ensures { Writes IsSafe (W.contents out.old) (W.contents out.new) result }
 {
     let roster = setup.roster();
     head_line(out, "[[participant]]")?;
@@ -189,9 +157,7 @@ fn letter_of(feed: Feed) -> &'static str {
 }
 
 /// Writes a table for each symbol of the shard.
-fn write_symbols<W: Write>(out: &mut W, cutting: &Cutting) -> Result<(), ImportFault>
-    ensures { Writes IsSafe (W.contents out.old) (W.contents out.new) result }
-{
+fn write_symbols(out: &mut SafeText, cutting: &Cutting) -> Result<(), AllocError> {
     for listed in cutting.listed() {
         write_symbol(out, listed)?;
     }
@@ -199,68 +165,48 @@ fn write_symbols<W: Write>(out: &mut W, cutting: &Cutting) -> Result<(), ImportF
 }
 
 /// Writes the table of a symbol.
-fn write_symbol<W: Write>(out: &mut W, listed: &Listed) -> Result<(), ImportFault>
-    ensures { Writes IsSafe (W.contents out.old) (W.contents out.new) result }
-{
+fn write_symbol(out: &mut SafeText, listed: &Listed) -> Result<(), AllocError> {
     head_line(out, "[[symbol]]")?;
     quoted_line(out, "name", listed.name.as_str())?;
     number_line(out, "lot = ", u64::from(listed.lot.get()))
 }
 
 /// Writes an empty line, and the head of a table.
-fn head_line<W: Write>(out: &mut W, head: &str) -> Result<(), ImportFault>
-    ensures { is_plain head.now ≡ true → Writes IsSafe (W.contents out.old) (W.contents out.new) result }
+fn head_line(out: &mut SafeText, head: &str) -> Result<(), AllocError>
+    requires { is_plain head.now ≡ true }
 {
-    line(out, &[])?;
-    line(out, &[Item::Text(head)])
+    out.line(&[])?;
+    out.line(&[Item::Text(head)])
 }
 
 /// Writes a key with a text in quotes.
-fn quoted_line<'x, W: Write>(out: &mut W, key: &'x str, text: &'x str) -> Result<(), ImportFault>
-    ensures { is_plain key.now ≡ true → Writes IsSafe (W.contents out.old) (W.contents out.new) result }
+fn quoted_line<'x>(out: &mut SafeText, key: &'x str, text: &'x str) -> Result<(), AllocError>
+    requires { is_plain key.now ≡ true }
 {
-    line(
-        out,
-        &[
-            Item::Text(key),
-            Item::Text(" = \""),
-            Item::Bytes(text.as_bytes()),
-            Item::Text("\""),
-        ],
-    )
+    out.line(&[
+        Item::Text(key),
+        Item::Text(" = \""),
+        Item::Bytes(text.as_bytes()),
+        Item::Text("\""),
+    ])
 }
 
 /// Writes a key with a number.
-fn number_line<W: Write>(out: &mut W, key: &str, number: u64) -> Result<(), ImportFault>
-    ensures { is_plain key.now ≡ true → Writes IsSafe (W.contents out.old) (W.contents out.new) result }
+fn number_line(out: &mut SafeText, key: &str, number: u64) -> Result<(), AllocError>
+    requires { is_plain key.now ≡ true }
 {
-    line(out, &[Item::Text(key), Item::Number(number)])
+    out.line(&[Item::Text(key), Item::Number(number)])
 }
 
 /// Writes a key with a whole number, which may be negative.
-fn amount_line<W: Write>(out: &mut W, key: &str, amount: i128) -> Result<(), ImportFault>
+fn amount_line(out: &mut SafeText, key: &str, amount: i128) -> Result<(), AllocError>
     requires low { negsuc 10000001010000000 ≤ℤ amount }
     requires high { amount ≤ℤ pos 10000000010000000 }
-    ensures { is_plain key.now ≡ true → Writes IsSafe (W.contents out.old) (W.contents out.new) result }
+    requires plain { is_plain key.now ≡ true }
 {
     let number = amount.unsigned_abs() as u64;
     if amount < 0 {
-        return line(
-            out,
-            &[Item::Text(key), Item::Text("-"), Item::Number(number)],
-        );
+        return out.line(&[Item::Text(key), Item::Text("-"), Item::Number(number)]);
     }
     number_line(out, key, number)
-}
-
-/// Writes a line.
-#[tactic(auto, using(nms_show::proofs::Offered::plain_items))]
-fn line<W: Write>(out: &mut W, items: &[Item<'_>]) -> Result<(), ImportFault>
-    ensures { list_all is_own_plain items.now ≡ true → Writes IsSafe (W.contents out.old) (W.contents out.new) result }
-{
-    match write_line(out, Form::Text { colours: false }, items) {
-        Ok(()) => Ok(()),
-        Err(ShowFault::NoMemory) => Err(ImportFault::NoMemory),
-        Err(ShowFault::WriteFault) => Err(ImportFault::WriteFault),
-    }
 }

@@ -10,6 +10,7 @@ mod item;
 mod lines;
 mod object;
 mod report;
+mod safe_text;
 mod show_fault;
 mod shown;
 mod under;
@@ -23,8 +24,9 @@ pub use lines::{write_line, write_row};
 pub use object::write_object;
 pub use report::{
     Location, WrongPart, item_if_any, item_of, words_before, words_round, write_advice,
-    write_found, write_place, write_plain_line, write_plain_object, write_refused,
+    write_found, write_plain_line, write_plain_object, write_refused,
 };
+pub use safe_text::SafeText;
 pub use show_fault::ShowFault;
 pub use shown::write_shown;
 pub use under::write_under;

@@ -6,8 +6,8 @@ ghost use Rattle.nms_show.specs.Safe.{IsSafe};
 ghost use Rattle.nms_show.specs.Written.{Writes};
 
 use crate::form::Form;
-use crate::item::Item;
-use crate::lines::{write_items, write_line};
+use crate::item::{Column, Item};
+use crate::lines::{write_items, write_line, write_row};
 use crate::object::write_object;
 use crate::show_fault::ShowFault;
 use crate::under::write_under;
@@ -52,6 +52,19 @@ pub fn write_plain_line<W: Write>(
     write_line(answers, form, items)
 }
 
+/// Writes a table's row, as `write_row` does, of items whose own texts are printable ASCII. What is added is safe to show.
+#[tactic(auto, using(crate::proofs::PlainFacts::plain_columns))]
+pub(crate) fn write_plain_row<W: Write>(
+    answers: &mut W,
+    form: Form,
+    columns: &[Column<'_>],
+) -> Result<(), ShowFault>
+    requires { list_all (λ column. is_own_plain column.item) columns.now ≡ true }
+    ensures safe { Writes IsSafe (W.contents answers.old) (W.contents answers.new) result }
+{
+    write_row(answers, form, columns)
+}
+
 /// Writes a JSON object, as `write_object` does, whose keys and own texts are printable ASCII. What is added is safe to show. A
 /// fault is one of `write_object`.
 pub fn write_plain_object<W: Write>(
@@ -68,7 +81,7 @@ pub fn write_plain_object<W: Write>(
 /// Writes the line of a refusal's place: file, line, column and code, and then the items. It is not flushed.
 ///
 /// What is added is safe to show. `WriteFault` leaves a first part of the line.
-pub fn write_place<W: Write>(
+pub(crate) fn write_place<W: Write>(
     answers: &mut W,
     form: Form,
     at: Location<'_>,

@@ -1,4 +1,5 @@
 //! Why an answer was not printed.
+use std::alloc::AllocError;
 use std::fmt;
 use thiserror::Error;
 
@@ -9,6 +10,12 @@ pub enum ShowFault {
     WriteFault,
     /// E4: out of memory. Nothing of the line was written.
     NoMemory,
+}
+
+impl From<AllocError> for ShowFault {
+    fn from(_error: AllocError) -> ShowFault {
+        ShowFault::NoMemory
+    }
 }
 
 impl fmt::Display for ShowFault {

@@ -1,11 +1,6 @@
--- Texts of the program's own are printable: those of columns, and of the keys and values of an object.
-use Rattle.std.proofs.Common.{◌≡◌, ◌&&◌, Bool, true, List, [], ◌∷◌, All, refl}
-use Rattle.std.specs.List.{list_all}
-use Rattle.std.proofs.lemmas.List.Elements.{All-cons, All-head, All-nil}
-use Rattle.nms_show.specs.Plain.{is_own_plain, is_plain}
-use Rattle.nms_show.specs.Safe.{IsPrintable, own_text}
-use Rattle.nms_show.specs.declared.item.Item.{Item}
-use Rattle.nms_show.proofs.Offered.{both_true, plain_items}
+-- Texts of the program's own are printable: the words of causes and sides, and the codes of faults.
+use Rattle.std.proofs.Common.{◌≡◌, true, refl}
+use Rattle.nms_show.specs.Plain.{is_plain}
 use Rattle.nms_quote.specs.declared.side_quote.Side.{Side}
 use Rattle.nms_quote.specs.declared.side_quote.Side.TheVariants.{Bid, Offer}
 use Rattle.nms_lines.specs.Sides.{side_word}
@@ -15,17 +10,6 @@ use Rattle.nms_trades.specs.declared.cause.Cause.{Cause}
 use Rattle.nms_trades.specs.declared.cause.Cause.TheVariants as cause
 use Rattle.nms_trades.specs.declared.trade_fault.TradeFault.{TradeFault}
 use Rattle.nms_trades.specs.declared.trade_fault.TradeFault.TheVariants as fault
-
-pub plain_item : (item : Item) → is_own_plain item ≡ true → IsPrintable (own_text item)
-plain_item item is = All-head (λ one. IsPrintable (own_text one)) item [] (plain_items (item ∷ []) (rw is refl))
-
--- each of things that are shown so
-pub all_plain : {A : Type 0} (shown : A → Item) (xs : List A) → list_all (λ x. is_own_plain (shown x)) xs ≡ true
-    → All (λ x. IsPrintable (own_text (shown x))) xs
-all_plain shown [] is = All-nil (λ x. IsPrintable (own_text (shown x)))
-all_plain shown (x ∷ xs) is =
-    let parts = both_true (is_own_plain (shown x)) (list_all (λ one. is_own_plain (shown one)) xs) is in
-    All-cons (λ one. IsPrintable (own_text (shown one))) x xs (plain_item (shown x) parts.0) (all_plain shown xs parts.1)
 
 -- the word of a cause
 pub plain_word : (cause : Cause) → is_plain (word_of cause) ≡ true

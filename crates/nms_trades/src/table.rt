@@ -11,12 +11,11 @@ use crate::cause::{CAUSES, Cause};
 use crate::execution::Execution;
 use crate::execution_file::Records;
 use crate::finding::Finding;
-use crate::showing::{show_line, show_object, show_row};
 use crate::tally::{Amount, Count, HALF_HOURS, Tally};
 use crate::trades_fault::TradesFault;
 use nms_lines::{name_of_part, name_of_sym};
 use nms_quote::{Part, Roster, Sym};
-use nms_show::{Column, Form, Item, ShowFault};
+use nms_show::{Column, Form, Item, SafeText, ShowFault};
 use nms_units::Money;
 use std::alloc::{AllocError, Global};
 use std::io::Write;
@@ -45,10 +44,27 @@ pub fn write_table<W: Write>(
         Err(fault) => return Err(fault),
     };
     let refused = records.refused.len() as u64;
-    match write_tally(alloc, roster, &tally, refused, form, answers) {
+    match print_tally(alloc, roster, &tally, refused, form, answers) {
         Ok(()) => Ok(()),
         Err(fault) => Err(TradesFault::Show(fault)),
     }
+}
+
+/// Writes a tally.
+#[tactic(auto, using(nms_show::proofs::Offered::no_part_added))]
+fn print_tally<W: Write>(
+    alloc: Global,
+    roster: &Roster,
+    tally: &Tally,
+    refused: u64,
+    form: Form,
+    answers: &mut W,
+) -> Result<(), ShowFault>
+    ensures { Writes IsSafe (W.contents answers.old) (W.contents answers.new) result }
+{
+    let mut out = SafeText::new(alloc, form);
+    write_tally(roster, tally, refused, &mut out)?;
+    out.pass_on(answers)
 }
 
 /// The records that are not among the executions judged.
@@ -107,177 +123,112 @@ fn count_one(tally: &mut Tally, execution: &Execution, answer: &Option<Finding>)
 }
 
 /// Writes a tally.
-fn write_tally<W: Write>(
-    alloc: Global,
+fn write_tally(
     roster: &Roster,
     tally: &Tally,
     refused: u64,
-    form: Form,
-    answers: &mut W,
-) -> Result<(), ShowFault>
-    ensures { Writes IsSafe (W.contents answers.old) (W.contents answers.new) result }
-{
+    out: &mut SafeText,
+) -> Result<(), AllocError> {
     let aside = Aside {
         refused,
         others: tally.others,
     };
-    write_all(alloc, &tally.all, aside, form, answers)?;
-    write_causes(alloc, tally, form, answers)?;
-    write_places(alloc, roster, tally, form, answers)
+    write_all(&tally.all, aside, out)?;
+    write_causes(tally, out)?;
+    write_places(roster, tally, out)
 }
 
 /// Writes the counts by participant, by symbol and by half hour.
-fn write_places<W: Write>(
-    alloc: Global,
-    roster: &Roster,
-    tally: &Tally,
-    form: Form,
-    answers: &mut W,
-) -> Result<(), ShowFault>
-    ensures { Writes IsSafe (W.contents answers.old) (W.contents answers.new) result }
-{
-    write_head(form, "executed by", answers)?;
-    write_parts(
-        alloc,
-        roster,
-        "executed",
-        &tally.places.executed,
-        form,
-        answers,
-    )?;
-    write_head(form, "traded through", answers)?;
-    write_parts(alloc, roster, "passed", &tally.places.passed, form, answers)?;
-    write_symbols(alloc, roster, &tally.places.syms, form, answers)?;
-    write_half_hours(alloc, &tally.places.half_hours, form, answers)
+fn write_places(roster: &Roster, tally: &Tally, out: &mut SafeText) -> Result<(), AllocError> {
+    write_head("executed by", out)?;
+    write_parts(roster, "executed", &tally.places.executed, out)?;
+    write_head("traded through", out)?;
+    write_parts(roster, "passed", &tally.places.passed, out)?;
+    write_symbols(roster, &tally.places.syms, out)?;
+    write_half_hours(&tally.places.half_hours, out)
 }
 
 /// Writes the counts of causes.
-fn write_causes<W: Write>(
-    alloc: Global,
-    tally: &Tally,
-    form: Form,
-    answers: &mut W,
-) -> Result<(), ShowFault>
-    ensures { Writes IsSafe (W.contents answers.old) (W.contents answers.new) result }
-{
-    write_head(form, "cause", answers)?;
+fn write_causes(tally: &Tally, out: &mut SafeText) -> Result<(), AllocError> {
+    write_head("cause", out)?;
     for place in 0..CAUSES {
         let name = Item::Text(Cause::ALL[place].word());
-        write_count(
-            alloc,
-            "cause",
-            name,
-            &tally.places.causes[place],
-            form,
-            answers,
-        )?;
+        write_count("cause", name, &tally.places.causes[place], out)?;
     }
     Ok(())
 }
 
 /// Writes the counts of all.
-fn write_all<W: Write>(
-    alloc: Global,
-    all: &Count,
-    aside: Aside,
-    form: Form,
-    answers: &mut W,
-) -> Result<(), ShowFault>
-    ensures { Writes IsSafe (W.contents answers.old) (W.contents answers.new) result }
-{
-    if form.is_json() {
-        return write_totals(alloc, all, aside, answers);
+fn write_all(all: &Count, aside: Aside, out: &mut SafeText) -> Result<(), AllocError> {
+    if out.is_json() {
+        return write_totals(all, aside, out);
     }
-    show_line(
-        answers,
-        form,
-        &[
-            Item::Number(all.executions),
-            Item::Text(" executions = "),
-            Item::Number(clean_of(all)),
-            Item::Text(" clean + "),
-            Item::Number(all.unquoted),
-            Item::Text(" not quoted + "),
-            Item::Number(all.perhaps.executions),
-            Item::Text(" perhaps + "),
-            Item::Number(all.through.executions),
-            Item::Text(" through; "),
-            Item::Number(aside.refused),
-            Item::Text(" records refused, "),
-            Item::Number(aside.others),
-            Item::Text(" of other shards"),
-        ],
-    )?;
-    write_amount("through: ", &all.through, all.executions, form, answers)?;
-    write_amount("perhaps: ", &all.perhaps, all.executions, form, answers)
+    out.line(&[
+        Item::Number(all.executions),
+        Item::Text(" executions = "),
+        Item::Number(clean_of(all)),
+        Item::Text(" clean + "),
+        Item::Number(all.unquoted),
+        Item::Text(" not quoted + "),
+        Item::Number(all.perhaps.executions),
+        Item::Text(" perhaps + "),
+        Item::Number(all.through.executions),
+        Item::Text(" through; "),
+        Item::Number(aside.refused),
+        Item::Text(" records refused, "),
+        Item::Number(aside.others),
+        Item::Text(" of other shards"),
+    ])?;
+    write_amount("through: ", &all.through, all.executions, out)?;
+    write_amount("perhaps: ", &all.perhaps, all.executions, out)
 }
 
 /// Writes the counts of all as an object.
-fn write_totals<W: Write>(
-    alloc: Global,
-    all: &Count,
-    aside: Aside,
-    answers: &mut W,
-) -> Result<(), ShowFault>
-    ensures { Writes IsSafe (W.contents answers.old) (W.contents answers.new) result }
-{
-    show_object(
-        alloc,
-        answers,
-        &[
-            ("what", Item::Text("totals")),
-            ("executions", Item::Number(all.executions)),
-            ("refused", Item::Number(aside.refused)),
-            ("other", Item::Number(aside.others)),
-            ("clean", Item::Number(clean_of(all))),
-            ("noquote", Item::Number(all.unquoted)),
-            ("perhaps", Item::Number(all.perhaps.executions)),
-            ("through", Item::Number(all.through.executions)),
-            ("no_cause", Item::Number(all.through.open)),
-            ("per_10000", rate_of(&all.through, all.executions)),
-            ("rows", Item::Number(all.through.rows)),
-            ("shares", Item::Number(all.through.shares)),
-            ("dollars", money_of(all.through.dollars)),
-            ("perhaps_no_cause", Item::Number(all.perhaps.open)),
-            ("perhaps_rows", Item::Number(all.perhaps.rows)),
-            ("perhaps_shares", Item::Number(all.perhaps.shares)),
-            ("perhaps_dollars", money_of(all.perhaps.dollars)),
-        ],
-    )
+fn write_totals(all: &Count, aside: Aside, out: &mut SafeText) -> Result<(), AllocError> {
+    out.object(&[
+        ("what", Item::Text("totals")),
+        ("executions", Item::Number(all.executions)),
+        ("refused", Item::Number(aside.refused)),
+        ("other", Item::Number(aside.others)),
+        ("clean", Item::Number(clean_of(all))),
+        ("noquote", Item::Number(all.unquoted)),
+        ("perhaps", Item::Number(all.perhaps.executions)),
+        ("through", Item::Number(all.through.executions)),
+        ("no_cause", Item::Number(all.through.open)),
+        ("per_10000", rate_of(&all.through, all.executions)),
+        ("rows", Item::Number(all.through.rows)),
+        ("shares", Item::Number(all.through.shares)),
+        ("dollars", money_of(all.through.dollars)),
+        ("perhaps_no_cause", Item::Number(all.perhaps.open)),
+        ("perhaps_rows", Item::Number(all.perhaps.rows)),
+        ("perhaps_shares", Item::Number(all.perhaps.shares)),
+        ("perhaps_dollars", money_of(all.perhaps.dollars)),
+    ])
 }
 
 /// Writes, after a word, how many of these executions there are among all, and how much they traded through.
-fn write_amount<W: Write>(
+fn write_amount(
     word: &str,
     amount: &Amount,
     executions: u64,
-    form: Form,
-    answers: &mut W,
-) -> Result<(), ShowFault>
-    ensures { is_plain word.now ≡ true → Writes IsSafe (W.contents answers.old) (W.contents answers.new) result }
+    out: &mut SafeText,
+) -> Result<(), AllocError>
+    requires { is_plain word.now ≡ true }
 {
     if executions == 0 {
-        return show_line(
-            answers,
-            form,
-            &[Item::Text(word), Item::Text("no executions")],
-        );
+        return out.line(&[Item::Text(word), Item::Text("no executions")]);
     }
-    show_line(
-        answers,
-        form,
-        &[
-            Item::Text(word),
-            rate_of(amount, executions),
-            Item::Text(" per 10,000 executions, "),
-            Item::Number(amount.open),
-            Item::Text(" without a cause, "),
-            Item::Number(amount.shares),
-            Item::Text(" shares, "),
-            money_of(amount.dollars),
-            Item::Text(" dollars"),
-        ],
-    )
+    out.line(&[
+        Item::Text(word),
+        rate_of(amount, executions),
+        Item::Text(" per 10,000 executions, "),
+        Item::Number(amount.open),
+        Item::Text(" without a cause, "),
+        Item::Number(amount.shares),
+        Item::Text(" shares, "),
+        money_of(amount.dollars),
+        Item::Text(" dollars"),
+    ])
 }
 
 /// How many executions are clean: those that are none of the others.
@@ -308,142 +259,112 @@ fn money_of<'a>(millionths: i128) -> Item<'a>
 }
 
 /// Writes the head of a table; of objects there is none.
-fn write_head<W: Write>(form: Form, name: &str, answers: &mut W) -> Result<(), ShowFault>
-    ensures { is_plain name.now ≡ true → Writes IsSafe (W.contents answers.old) (W.contents answers.new) result }
+fn write_head(name: &str, out: &mut SafeText) -> Result<(), AllocError>
+    requires { is_plain name.now ≡ true }
 {
-    if form.is_json() {
+    if out.is_json() {
         return Ok(());
     }
-    show_line(answers, form, &[])?;
-    show_row(
-        answers,
-        form,
-        &[
-            column(Item::Strong(name), 18, false),
-            column(Item::Strong("executions"), 10, true),
-            column(Item::Strong("noquote"), 8, true),
-            column(Item::Strong("perhaps"), 8, true),
-            column(Item::Strong("through"), 8, true),
-            column(Item::Strong("no cause"), 8, true),
-            column(Item::Strong("rows"), 8, true),
-            column(Item::Strong("shares"), 12, true),
-            column(Item::Strong("dollars"), 20, true),
-            column(Item::Strong("worst"), 16, true),
-        ],
-    )
+    out.line(&[])?;
+    out.row(&[
+        column(Item::Strong(name), 18, false),
+        column(Item::Strong("executions"), 10, true),
+        column(Item::Strong("noquote"), 8, true),
+        column(Item::Strong("perhaps"), 8, true),
+        column(Item::Strong("through"), 8, true),
+        column(Item::Strong("no cause"), 8, true),
+        column(Item::Strong("rows"), 8, true),
+        column(Item::Strong("shares"), 12, true),
+        column(Item::Strong("dollars"), 20, true),
+        column(Item::Strong("worst"), 16, true),
+    ])
 }
 
 /// Writes a count, if there is anything in it.
-fn write_count<'a, W: Write>(
-    alloc: Global,
+fn write_count<'a>(
     what: &'a str,
     name: Item<'a>,
     count: &Count,
-    form: Form,
-    answers: &mut W,
-) -> Result<(), ShowFault>
-    ensures { is_plain what.now ≡ true → is_own_plain name.entry ≡ true
-        → Writes IsSafe (W.contents answers.old) (W.contents answers.new) result }
+    out: &mut SafeText,
+) -> Result<(), AllocError>
+    requires what { is_plain what.now ≡ true }
+    requires name { is_own_plain name ≡ true }
 {
     if count.is_empty() {
         return Ok(());
     }
-    if form.is_json() {
-        return write_count_object(alloc, what, name, count, answers);
+    if out.is_json() {
+        return write_count_object(what, name, count, out);
     }
-    write_count_row(name, count, form, answers)?;
-    write_perhaps_row(&count.perhaps, form, answers)
+    write_count_row(name, count, out)?;
+    write_perhaps_row(&count.perhaps, out)
 }
 
 /// Writes a count as an object.
-fn write_count_object<'a, W: Write>(
-    alloc: Global,
+fn write_count_object<'a>(
     what: &'a str,
     name: Item<'a>,
     count: &Count,
-    answers: &mut W,
-) -> Result<(), ShowFault>
-    ensures { is_plain what.now ≡ true → is_own_plain name.entry ≡ true
-        → Writes IsSafe (W.contents answers.old) (W.contents answers.new) result }
+    out: &mut SafeText,
+) -> Result<(), AllocError>
+    requires what { is_plain what.now ≡ true }
+    requires name { is_own_plain name ≡ true }
 {
-    show_object(
-        alloc,
-        answers,
-        &[
-            ("what", Item::Text(what)),
-            ("name", name),
-            ("executions", Item::Number(count.executions)),
-            ("noquote", Item::Number(count.unquoted)),
-            ("perhaps", Item::Number(count.perhaps.executions)),
-            ("through", Item::Number(count.through.executions)),
-            ("no_cause", Item::Number(count.through.open)),
-            ("rows", Item::Number(count.through.rows)),
-            ("shares", Item::Number(count.through.shares)),
-            ("dollars", money_of(count.through.dollars)),
-            ("worst", money_of(i128::from(count.through.worst))),
-            ("perhaps_no_cause", Item::Number(count.perhaps.open)),
-            ("perhaps_rows", Item::Number(count.perhaps.rows)),
-            ("perhaps_shares", Item::Number(count.perhaps.shares)),
-            ("perhaps_dollars", money_of(count.perhaps.dollars)),
-            ("perhaps_worst", money_of(i128::from(count.perhaps.worst))),
-        ],
-    )
+    out.object(&[
+        ("what", Item::Text(what)),
+        ("name", name),
+        ("executions", Item::Number(count.executions)),
+        ("noquote", Item::Number(count.unquoted)),
+        ("perhaps", Item::Number(count.perhaps.executions)),
+        ("through", Item::Number(count.through.executions)),
+        ("no_cause", Item::Number(count.through.open)),
+        ("rows", Item::Number(count.through.rows)),
+        ("shares", Item::Number(count.through.shares)),
+        ("dollars", money_of(count.through.dollars)),
+        ("worst", money_of(i128::from(count.through.worst))),
+        ("perhaps_no_cause", Item::Number(count.perhaps.open)),
+        ("perhaps_rows", Item::Number(count.perhaps.rows)),
+        ("perhaps_shares", Item::Number(count.perhaps.shares)),
+        ("perhaps_dollars", money_of(count.perhaps.dollars)),
+        ("perhaps_worst", money_of(i128::from(count.perhaps.worst))),
+    ])
 }
 
 /// Writes a count as a row of a table.
-fn write_count_row<W: Write>(
-    name: Item<'_>,
-    count: &Count,
-    form: Form,
-    answers: &mut W,
-) -> Result<(), ShowFault>
-    ensures { is_own_plain name.entry ≡ true → Writes IsSafe (W.contents answers.old) (W.contents answers.new) result }
+fn write_count_row(name: Item<'_>, count: &Count, out: &mut SafeText) -> Result<(), AllocError>
+    requires { is_own_plain name ≡ true }
 {
-    show_row(
-        answers,
-        form,
-        &[
-            column(name, 18, false),
-            column(Item::Number(count.executions), 10, true),
-            column(Item::Number(count.unquoted), 8, true),
-            column(Item::Number(count.perhaps.executions), 8, true),
-            column(Item::Number(count.through.executions), 8, true),
-            column(Item::Number(count.through.open), 8, true),
-            column(Item::Number(count.through.rows), 8, true),
-            column(Item::Number(count.through.shares), 12, true),
-            column(money_of(count.through.dollars), 20, true),
-            column(money_of(i128::from(count.through.worst)), 16, true),
-        ],
-    )
+    out.row(&[
+        column(name, 18, false),
+        column(Item::Number(count.executions), 10, true),
+        column(Item::Number(count.unquoted), 8, true),
+        column(Item::Number(count.perhaps.executions), 8, true),
+        column(Item::Number(count.through.executions), 8, true),
+        column(Item::Number(count.through.open), 8, true),
+        column(Item::Number(count.through.rows), 8, true),
+        column(Item::Number(count.through.shares), 12, true),
+        column(money_of(count.through.dollars), 20, true),
+        column(money_of(i128::from(count.through.worst)), 16, true),
+    ])
 }
 
 /// Writes the sums of those that perhaps traded through as a row below that of their count, if there are any.
-fn write_perhaps_row<W: Write>(
-    amount: &Amount,
-    form: Form,
-    answers: &mut W,
-) -> Result<(), ShowFault>
-    ensures { Writes IsSafe (W.contents answers.old) (W.contents answers.new) result }
-{
+fn write_perhaps_row(amount: &Amount, out: &mut SafeText) -> Result<(), AllocError> {
     if amount.executions == 0 && amount.rows == 0 {
         return Ok(());
     }
-    show_row(
-        answers,
-        form,
-        &[
-            column(Item::Text("  of perhaps"), 18, false),
-            column(Item::Absent, 10, true),
-            column(Item::Absent, 8, true),
-            column(Item::Absent, 8, true),
-            column(Item::Absent, 8, true),
-            column(Item::Number(amount.open), 8, true),
-            column(Item::Number(amount.rows), 8, true),
-            column(Item::Number(amount.shares), 12, true),
-            column(money_of(amount.dollars), 20, true),
-            column(money_of(i128::from(amount.worst)), 16, true),
-        ],
-    )
+    out.row(&[
+        column(Item::Text("  of perhaps"), 18, false),
+        column(Item::Absent, 10, true),
+        column(Item::Absent, 8, true),
+        column(Item::Absent, 8, true),
+        column(Item::Absent, 8, true),
+        column(Item::Number(amount.open), 8, true),
+        column(Item::Number(amount.rows), 8, true),
+        column(Item::Number(amount.shares), 12, true),
+        column(money_of(amount.dollars), 20, true),
+        column(money_of(i128::from(amount.worst)), 16, true),
+    ])
 }
 
 /// A column of a row.
@@ -454,19 +375,17 @@ fn column(item: Item<'_>, width: usize, right: bool) -> Column<'_>
 }
 
 /// Writes the counts of participants; the one after the last is off an exchange.
-fn write_parts<W: Write>(
-    alloc: Global,
+fn write_parts(
     roster: &Roster,
     what: &str,
     counts: &[Count],
-    form: Form,
-    answers: &mut W,
-) -> Result<(), ShowFault>
-    ensures { is_plain what.now ≡ true → Writes IsSafe (W.contents answers.old) (W.contents answers.new) result }
+    out: &mut SafeText,
+) -> Result<(), AllocError>
+    requires { is_plain what.now ≡ true }
 {
     for place in 0..counts.len() {
         let name = part_item(roster, place);
-        write_count(alloc, what, name, &counts[place], form, answers)?;
+        write_count(what, name, &counts[place], out)?;
     }
     Ok(())
 }
@@ -485,101 +404,50 @@ fn part_item(roster: &Roster, place: usize) -> Item<'_>
 }
 
 /// Writes the counts of symbols: in a table the 50 with the most shares through, as objects all.
-fn write_symbols<W: Write>(
-    alloc: Global,
-    roster: &Roster,
-    counts: &[Count],
-    form: Form,
-    answers: &mut W,
-) -> Result<(), ShowFault>
-    ensures { Writes IsSafe (W.contents answers.old) (W.contents answers.new) result }
-{
-    write_head(form, "symbol", answers)?;
-    let Ok(order) = by_shares(alloc, counts) else {
-        return Err(ShowFault::NoMemory);
-    };
-    let shown = if form.is_json() {
+fn write_symbols(roster: &Roster, counts: &[Count], out: &mut SafeText) -> Result<(), AllocError> {
+    write_head("symbol", out)?;
+    let order = by_shares(out.alloc(), counts)?;
+    let shown = if out.is_json() {
         order.len()
     } else {
         MOST_SYMBOLS_SHOWN
     };
-    write_shown(alloc, roster, counts, &order, shown, form, answers)
+    write_shown(roster, counts, &order, shown, out)
 }
 
 /// Writes the counts of the first symbols in an order of their places, at most that many.
-fn write_shown<W: Write>(
-    alloc: Global,
+fn write_shown(
     roster: &Roster,
     counts: &[Count],
     order: &[usize],
     shown: usize,
-    form: Form,
-    answers: &mut W,
-) -> Result<(), ShowFault>
-    ensures { Writes IsSafe (W.contents answers.old) (W.contents answers.new) result }
-{
+    out: &mut SafeText,
+) -> Result<(), AllocError> {
     for at in 0..shown.min(order.len()) {
-        write_sym(alloc, roster, counts, order[at], form, answers)?;
+        let place = order[at];
+        if place < counts.len() {
+            write_count("symbol", sym_item(roster, place), &counts[place], out)?;
+        }
     }
     Ok(())
-}
-
-/// Writes the counts of the symbol at a place.
-fn write_sym<W: Write>(
-    alloc: Global,
-    roster: &Roster,
-    counts: &[Count],
-    place: usize,
-    form: Form,
-    answers: &mut W,
-) -> Result<(), ShowFault>
-    ensures { Writes IsSafe (W.contents answers.old) (W.contents answers.new) result }
-{
-    if place >= counts.len() {
-        return Ok(());
-    }
-    let name = sym_item(roster, place);
-    write_count(alloc, "symbol", name, &counts[place], form, answers)
 }
 
 /// Writes the counts of half hours of the day, if any execution has a time.
-fn write_half_hours<W: Write>(
-    alloc: Global,
-    counts: &[Count; HALF_HOURS],
-    form: Form,
-    answers: &mut W,
-) -> Result<(), ShowFault>
-    ensures { Writes IsSafe (W.contents answers.old) (W.contents answers.new) result }
-{
+fn write_half_hours(counts: &[Count; HALF_HOURS], out: &mut SafeText) -> Result<(), AllocError> {
     if counts.iter().all(|count| count.executions == 0) {
         return Ok(());
     }
-    write_head(form, "half hour", answers)?;
+    write_head("half hour", out)?;
     for place in 0..HALF_HOURS {
-        write_half_hour(alloc, place as u8, &counts[place], form, answers)?;
+        let name = name_of_half_hour(place as u8);
+        write_count(
+            "half_hour",
+            Item::Bytes(name.as_slice()),
+            &counts[place],
+            out,
+        )?;
     }
     Ok(())
-}
-
-/// Writes the counts of a half hour.
-fn write_half_hour<W: Write>(
-    alloc: Global,
-    place: u8,
-    count: &Count,
-    form: Form,
-    answers: &mut W,
-) -> Result<(), ShowFault>
-    ensures { Writes IsSafe (W.contents answers.old) (W.contents answers.new) result }
-{
-    let name = name_of_half_hour(place);
-    write_count(
-        alloc,
-        "half_hour",
-        Item::Bytes(name.as_slice()),
-        count,
-        form,
-        answers,
-    )
 }
 
 /// When a half hour begins, as `09:30`.

@@ -1,31 +1,31 @@
-//! Why the text of a mapping is refused (`specs/Documents`).
-ghost use Rattle.std.specs.Prelude.{◌≡◌, ◌≢◌, ◌⊎◌, IfOk, None};
+//! Why the text of a mapping is refused (`specs/Ended`).
+ghost use Rattle.std.specs.Prelude.{◌≡◌, IfOk, IsUtf8, length};
 ghost use Rattle.toml.specs.Parse.{parse_document};
+ghost use Rattle.toml.specs.View.{table_view};
 ghost use Rattle.nms_show.specs.Safe.{IsSafe};
 ghost use Rattle.nms_show.specs.Written.{Writes};
-ghost use Rattle.nms_explain_toml.specs.Documents.{IsDocument};
+ghost use Rattle.nms_explain_toml.specs.Ended.{ending_by, ending_by_map, ending_of};
 
-use super::draft::Draft;
-use super::mending::mend;
-use super::telling::{Place, tell_fault, tell_no_toml, tell_summary};
-use super::words::wrong_word;
+use super::kind::kind_of;
+use super::nearest::{meant_at_top, meant_in_all};
+use super::telling::{tell_finding, tell_no_toml, tell_summary};
 use crate::told::Told;
-use nms_import::MapFault;
+use nms_import::{Draft, Finding, find_faults};
 use nms_show::{Ending, Form, ShowFault};
-use std::alloc::{AllocError, Global};
+use std::alloc::Global;
 use std::io::Write;
 use std::str;
 use toml::Table;
 
 /// The most faults that are reported.
-const MOST_TOLD: u64 = 100;
+const MOST_TOLD: usize = 100;
 
-/// Prints why a mapping is refused: at most 100 of its faults, each with its line, table, key, value and what is expected; or
+/// Prints why a mapping is refused: the first 100 of its faults, each with its line, table, key, value and what is expected; or
 /// that there is none. It ends with `SetupRefused` if there is a fault.
 ///
-/// Each key that is not known or absent is a fault, each value that is not allowed, and of a list each word. A fault that was
-/// found is mended in the document, and this is read again for the next one; the first is that of `import`. A text that is no
-/// TOML document has one fault, M1, at the place where the parser stopped.
+/// Each key that is not known or absent is a fault, each value that is not allowed, and of a list each word. The value of a key
+/// that is not known is that of the key that was meant. A text that is no TOML document has one fault, M1, at the place where the
+/// parser stopped.
 ///
 /// Errors: `WriteFault` if `answers` refuses, `NoMemory` if out of memory. A first part of the text may have been written. What is
 /// written is safe to show on a terminal.
@@ -36,8 +36,8 @@ pub fn explain_map<W: Write>(
     form: Form,
     answers: &mut W,
 ) -> Result<Ending, ShowFault>
-    ensures ending { IfOk result (λ ending. (ending ≡ Ending.Done) ⊎ (ending ≡ Ending.SetupRefused)) }
-    ensures document { IfOk result (λ ending. ending ≡ Ending.Done → IsDocument text.now) }
+    ensures read { IfOk result (λ ending. IsUtf8 text.now → ending ≡ ending_by_map (parse_document text.now)) }
+    ensures no_text { IfOk result (λ ending. ¬ (IsUtf8 text.now) → ending ≡ Ending.SetupRefused) }
     ensures safe { Writes IsSafe (W.contents answers.old) (W.contents answers.new) result }
 {
     let told = Told {
@@ -56,192 +56,128 @@ pub fn explain_map<W: Write>(
 }
 
 /// Prints the faults of a text that is UTF-8.
+#[tactic(auto, using(nms_show::proofs::Offered::no_part_added))]
 fn tell_text<W: Write>(told: Told<'_>, text: &str, answers: &mut W) -> Result<Ending, ShowFault>
-    ensures ending { IfOk result (λ ending. (ending ≡ Ending.Done) ⊎ (ending ≡ Ending.SetupRefused)) }
-    ensures document { IfOk result (λ ending. ending ≡ Ending.Done → parse_document text.now ≢ None) }
+    ensures ending { IfOk result (λ ending. ending ≡ ending_by_map (parse_document text.now)) }
     ensures safe { Writes IsSafe (W.contents answers.old) (W.contents answers.new) result }
 {
     match toml::table_from_str(told.alloc, text) {
-        Ok(document) => tell_document(told, document, answers),
-        Err(error) => match error.span() {
-            Some(span) => tell_no_toml(told, span.start, span.end, error.message(), answers),
-            None => Err(ShowFault::NoMemory),
-        },
+        Ok(document) => tell_document(told, &document, answers),
+        Err(error) if error.is_memory() => Err(ShowFault::NoMemory),
+        Err(error) => {
+            let (start, end) = match error.span() {
+                Some(span) => (span.start, span.end),
+                None => (0, 0),
+            };
+            tell_no_toml(told, start, end, error.message(), answers)
+        }
     }
 }
 
 /// Prints the faults of a document.
+#[tactic(auto, using(nms_show::proofs::Offered::no_part_added))]
 fn tell_document<W: Write>(
     told: Told<'_>,
-    document: Table,
+    document: &Table,
     answers: &mut W,
 ) -> Result<Ending, ShowFault>
-    ensures ending { IfOk result (λ ending. (ending ≡ Ending.Done) ⊎ (ending ≡ Ending.SetupRefused)) }
+    ensures ending { IfOk result (λ ending. ending ≡ ending_by (table_view document.now)) }
     ensures safe { Writes IsSafe (W.contents answers.old) (W.contents answers.new) result }
 {
-    let mut draft = Draft::new(told.alloc, document);
-    tell_draft(told, &mut draft, answers)
-}
-
-/// Prints the faults that are left in a draft. It owns none, so its exits drop nothing of it.
-fn tell_draft<W: Write>(
-    told: Told<'_>,
-    draft: &mut Draft,
-    answers: &mut W,
-) -> Result<Ending, ShowFault>
-    ensures ending { IfOk result (λ ending. (ending ≡ Ending.Done) ⊎ (ending ≡ Ending.SetupRefused)) }
-    ensures safe { Writes IsSafe (W.contents answers.old) (W.contents answers.new) result }
-{
-    let mut last = None;
-    for faults in 0..MOST_TOLD {
-        match tell_next(told, draft, &last, answers)? {
-            Next::Told(spot) => last = Some(spot),
-            Next::Faultless => return tell_sum(told, faults, answers),
-            Next::Again => return tell_refused(told, faults, false, answers),
-        }
-    }
-    let more = draft.next_fault(told.alloc).is_some();
-    tell_refused(told, MOST_TOLD, more, answers)
-}
-
-/// What came of a search for the next fault of a document.
-#[derive(Drop)]
-enum Next {
-    /// There is none.
-    Faultless,
-    /// It was reported and mended.
-    Told(Spot),
-    /// It is at the spot of the one before, or has none: it can't be mended, and is reported once.
-    Again,
-}
-
-/// Where a fault was: the table, the key, and the place of the word in its list.
-#[derive(Drop)]
-struct Spot {
-    table: &'static str,
-    key: String,
-    word: Option<usize>,
-}
-
-/// Prints the next fault of a document, and mends it.
-#[tactic(auto, using(nms_show::proofs::Offered::nothing_added, nms_show::proofs::Offered::no_part_added, nms_show::proofs::Offered::whole_part))]
-fn tell_next<W: Write>(
-    told: Told<'_>,
-    draft: &mut Draft,
-    last: &Option<Spot>,
-    answers: &mut W,
-) -> Result<Next, ShowFault>
-    ensures safe { Writes IsSafe (W.contents answers.old) (W.contents answers.new) result }
-{
-    match draft.next_fault(told.alloc) {
-        None => Ok(Next::Faultless),
-        Some(MapFault::NoMemory) => Err(ShowFault::NoMemory),
-        Some(fault) => tell_found(told, draft, &fault, last, answers),
-    }
-}
-
-/// Prints a fault of a document that has a spot, and mends it.
-#[tactic(auto, using(nms_show::proofs::Offered::nothing_added, nms_show::proofs::Offered::no_part_added, nms_show::proofs::Offered::whole_part))]
-fn tell_found<W: Write>(
-    told: Told<'_>,
-    draft: &mut Draft,
-    fault: &MapFault,
-    last: &Option<Spot>,
-    answers: &mut W,
-) -> Result<Next, ShowFault>
-    ensures safe { Writes IsSafe (W.contents answers.old) (W.contents answers.new) result }
-{
-    let Some(place) = draft.place_of(fault) else {
-        return Ok(Next::Again);
-    };
-    let word = word_of(draft, fault, &place);
-    if is_at(last, &place, word) {
-        return Ok(Next::Again);
-    }
-    tell_placed(told, &*draft, &*fault, word, answers)?;
-    match mended(told.alloc, draft, fault, &place, word) {
-        Ok(spot) => Ok(Next::Told(spot)),
+    let draft = Draft::new(kind_of(document), document);
+    match find_faults(told.alloc, draft) {
+        Ok(found) => tell_found(told, draft, &found, answers),
         Err(_) => Err(ShowFault::NoMemory),
     }
 }
 
-/// Prints a fault of a document that has a place.
-#[tactic(auto, using(nms_show::proofs::Offered::nothing_added))]
-fn tell_placed<'a, W: Write>(
-    told: Told<'a>,
-    draft: &'a Draft,
-    fault: &'a MapFault,
-    word: Option<usize>,
+/// Prints the faults of a document in which these were found, as they are without keys that were meant.
+fn tell_found<W: Write>(
+    told: Told<'_>,
+    draft: Draft<'_>,
+    found: &[Finding<'_>],
     answers: &mut W,
-) -> Result<(), ShowFault>
+) -> Result<Ending, ShowFault>
+    ensures ending { IfOk result (λ ending. ending ≡ ending_of (length found.now)) }
     ensures safe { Writes IsSafe (W.contents answers.old) (W.contents answers.new) result }
 {
-    match draft.place_of(fault) {
-        Some(place) => tell_fault(told, draft, fault, &place, word, answers),
-        None => Ok(()),
+    if found.is_empty() {
+        tell_none(told, answers)
+    } else {
+        tell_meant(told, draft, answers)
     }
 }
 
-/// The place of the word in a list that a fault is about, if it is about one.
-fn word_of(draft: &Draft, fault: &MapFault, place: &Place<'_>) -> Option<usize> {
-    match fault {
-        MapFault::BadValue { .. } => wrong_word(draft.kind, &draft.document, place),
-        MapFault::Unknown { .. }
-        | MapFault::Missing { .. }
-        | MapFault::NotToml { .. }
-        | MapFault::NoColumn { .. }
-        | MapFault::NoMemory => None,
-    }
-}
-
-/// Mends a fault, and says where it was.
-fn mended(
-    alloc: Global,
-    draft: &mut Draft,
-    fault: &MapFault,
-    place: &Place<'_>,
-    word: Option<usize>,
-) -> Result<Spot, AllocError> {
-    mend(alloc, draft, fault, place, word)?;
-    Ok(Spot {
-        table: place.table,
-        key: String::from_str(alloc, place.key)?,
-        word,
-    })
-}
-
-/// Prints how many faults were reported before none was left, and ends.
-fn tell_sum<W: Write>(told: Told<'_>, faults: u64, answers: &mut W) -> Result<Ending, ShowFault>
-    ensures ending { IfOk result (λ ending. (ending ≡ Ending.Done) ⊎ (ending ≡ Ending.SetupRefused)) }
+/// Prints that a document has no fault.
+fn tell_none<W: Write>(told: Told<'_>, answers: &mut W) -> Result<Ending, ShowFault>
+    ensures ending { IfOk result (λ ending. ending ≡ Ending.Done) }
     ensures safe { Writes IsSafe (W.contents answers.old) (W.contents answers.new) result }
 {
-    if faults > 0 {
-        return tell_refused(told, faults, false, answers);
-    }
     tell_summary(told, 0, false, answers)?;
     Ok(Ending::Done)
 }
 
-/// Prints how many faults were reported and whether there are more, and ends: the mapping is refused.
-fn tell_refused<W: Write>(
+/// Prints the faults of a document that has some, where keys that are not known are taken for those that were meant.
+#[tactic(auto, using(nms_show::proofs::Offered::no_part_added))]
+fn tell_meant<W: Write>(
     told: Told<'_>,
-    faults: u64,
-    more: bool,
+    draft: Draft<'_>,
     answers: &mut W,
 ) -> Result<Ending, ShowFault>
     ensures ending { IfOk result (λ ending. ending ≡ Ending.SetupRefused) }
     ensures safe { Writes IsSafe (W.contents answers.old) (W.contents answers.new) result }
 {
-    tell_summary(told, faults, more, answers)?;
+    let Ok(tables) = meant_at_top(told.alloc, draft) else {
+        return Err(ShowFault::NoMemory);
+    };
+    let named = Draft {
+        meant: &tables,
+        keys: draft.keys,
+        kind: draft.kind,
+        document: draft.document,
+    };
+    let Ok(all) = meant_in_all(told.alloc, named) else {
+        return Err(ShowFault::NoMemory);
+    };
+    let named = Draft {
+        meant: &all,
+        keys: draft.keys,
+        kind: draft.kind,
+        document: draft.document,
+    };
+    match find_faults(told.alloc, named) {
+        Ok(found) => tell_faults(told, named, &found, answers),
+        Err(_) => Err(ShowFault::NoMemory),
+    }
+}
+
+/// Prints the first of the faults that were found, how many were printed, and whether there are more.
+fn tell_faults<W: Write>(
+    told: Told<'_>,
+    draft: Draft<'_>,
+    found: &[Finding<'_>],
+    answers: &mut W,
+) -> Result<Ending, ShowFault>
+    ensures ending { IfOk result (λ ending. ending ≡ Ending.SetupRefused) }
+    ensures safe { Writes IsSafe (W.contents answers.old) (W.contents answers.new) result }
+{
+    let most = found.len().min(MOST_TOLD);
+    tell_each(told, draft, &found[..most], answers)?;
+    tell_summary(told, most as u64, most < found.len(), answers)?;
     Ok(Ending::SetupRefused)
 }
 
-/// Whether a fault is at the spot of the one before.
-fn is_at(last: &Option<Spot>, place: &Place<'_>, word: Option<usize>) -> bool {
-    match last {
-        Some(last) => {
-            last.table == place.table && last.key.as_str() == place.key && last.word == word
-        }
-        None => false,
+/// Prints each of these faults.
+fn tell_each<W: Write>(
+    told: Told<'_>,
+    draft: Draft<'_>,
+    found: &[Finding<'_>],
+    answers: &mut W,
+) -> Result<(), ShowFault>
+    ensures { Writes IsSafe (W.contents answers.old) (W.contents answers.new) result }
+{
+    for finding in found {
+        tell_finding(told, draft, finding, answers)?;
     }
+    Ok(())
 }

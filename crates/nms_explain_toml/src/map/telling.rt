@@ -5,59 +5,19 @@ ghost use Rattle.nms_show.specs.Plain.{is_own_plain, is_plain};
 ghost use Rattle.nms_show.specs.Safe.{IsSafe};
 ghost use Rattle.nms_show.specs.Written.{Writes};
 
-use super::draft::Draft;
-use super::nearest::nearest_known;
+use super::nearest::meant_by;
 use crate::marked::{Marked, mark_at};
 use crate::marking::{write_finding, write_marked};
 use crate::named::locate_named;
 use crate::setup::element_in;
 use crate::told::Told;
 use crate::toml_line::value_in;
-use nms_import::MapFault;
+use nms_import::{Draft, Finding, Wrong, keys_text, written_as};
 use nms_show::{
     Ending, Form, Item, ShowFault, item_of, words_before, write_plain_line, write_plain_object,
 };
 use std::alloc::{AllocError, Global};
 use std::io::Write;
-use toml::Table;
-
-/// The place of a fault in a document, and what is expected there.
-#[derive(Clone, Copy)]
-pub(crate) struct Place<'a> {
-    /// The table's name, empty for the document itself.
-    pub(crate) table: &'static str,
-    /// The key.
-    pub(crate) key: &'a str,
-    pub(crate) expected: &'static str,
-}
-
-impl<'a> Place<'a> {
-    /// The place of a fault of a document, if it has one.
-    pub(crate) fn of(fault: &'a MapFault) -> Option<Place<'a>> {
-        match fault {
-            MapFault::Missing {
-                table,
-                key,
-                expected,
-            }
-            | MapFault::Unknown {
-                table,
-                key,
-                expected,
-            }
-            | MapFault::BadValue {
-                table,
-                key,
-                expected,
-            } => Some(Place {
-                table: *table,
-                key: key.as_str(),
-                expected: *expected,
-            }),
-            MapFault::NotToml { .. } | MapFault::NoColumn { .. } | MapFault::NoMemory => None,
-        }
-    }
-}
 
 /// A fault, with the facts that are printed.
 #[derive(Clone, Copy)]
@@ -76,14 +36,6 @@ struct Refusal<'a> {
     expected: &'a str,
     /// The key that was meant, or one in the place of an absent one.
     meant: Option<&'a str>,
-}
-
-/// The members of a table of a document.
-pub(crate) fn members_of<'a>(document: &'a Table, table: &str) -> Option<&'a Table> {
-    if table.is_empty() {
-        return Some(document);
-    }
-    document.get(table)?.as_table()
 }
 
 /// Prints where and why a text is no TOML document.
@@ -113,39 +65,51 @@ pub(crate) fn tell_no_toml<'a, W: Write>(
     Ok(Ending::SetupRefused)
 }
 
-/// Prints a fault of a document: of the word at that place of a list, if it is about one.
-pub(crate) fn tell_fault<'a, W: Write>(
+/// Prints a fault of a document.
+pub(crate) fn tell_finding<'a, W: Write>(
     told: Told<'a>,
-    draft: &'a Draft,
-    fault: &'a MapFault,
-    place: &Place<'a>,
-    word: Option<usize>,
+    draft: Draft<'a>,
+    finding: &Finding<'a>,
     answers: &mut W,
 ) -> Result<(), ShowFault>
     ensures safe { Writes IsSafe (W.contents answers.old) (W.contents answers.new) result }
 {
-    let Ok(meant) = meant_at(told.alloc, &draft.document, fault, place) else {
+    let Ok(others) = others_text(told.alloc, draft, finding) else {
         return Err(ShowFault::NoMemory);
     };
-    let table = draft.written("", place.table);
-    let at_key = located(
-        told.text,
-        table,
-        draft.written(place.table, place.key),
-        word,
-    );
+    let table = written_as(draft.meant, "", finding.table);
+    let key = written_as(draft.meant, finding.table, finding.key);
+    let at_key = located(told.text, table, key, finding.word);
     let refusal = Refusal {
         file: told.file,
-        marked: part_at(fault, at_key, marked_table(told.text, table)),
-        code: fault.code(),
-        sentence: sentence_of(fault),
-        table: Some(place.table),
-        key: Some(place.key),
-        found: found_at(fault, at_key, place.key),
-        expected: place.expected,
-        meant,
+        marked: part_at(finding.wrong, at_key, marked_table(told.text, table)),
+        code: finding.wrong.code(),
+        sentence: sentence_of(finding.wrong),
+        table: Some(finding.table),
+        key: Some(finding.key),
+        found: found_at(finding, at_key),
+        expected: match finding.wrong {
+            Wrong::Unknown => others.as_str(),
+            Wrong::Missing | Wrong::BadValue => finding.expected,
+        },
+        meant: match finding.wrong {
+            Wrong::Unknown => meant_by(draft.meant, finding.table, finding.key),
+            Wrong::Missing | Wrong::BadValue => None,
+        },
     };
     tell_refusal(told.alloc, told.form, &refusal, answers)
+}
+
+/// The keys that may stand in the place of one that is not known.
+fn others_text(
+    alloc: Global,
+    draft: Draft<'_>,
+    finding: &Finding<'_>,
+) -> Result<String, AllocError> {
+    match finding.wrong {
+        Wrong::Unknown => keys_text(alloc, draft.kind, finding.table, finding.key),
+        Wrong::Missing | Wrong::BadValue => Ok(String::new(alloc)),
+    }
 }
 
 /// Where a key with its value stands, or the word at that place of the list there.
@@ -168,69 +132,34 @@ fn word_in<'a>(text: &'a [u8], at_key: Marked<'a>, word: usize) -> Option<Marked
     Some(marked.at(start, end))
 }
 
-/// The key that was meant by one that is not known.
-fn meant_at(
-    alloc: Global,
-    document: &Table,
-    fault: &MapFault,
-    place: &Place<'_>,
-) -> Result<Option<&'static str>, AllocError> {
-    match fault {
-        MapFault::Unknown { .. } => nearest_known(alloc, members_of(document, place.table), place),
-        MapFault::Missing { .. }
-        | MapFault::BadValue { .. }
-        | MapFault::NotToml { .. }
-        | MapFault::NoColumn { .. }
-        | MapFault::NoMemory => Ok(None),
-    }
-}
-
 /// The part of the text that is reported: the key or its value if its line was found, else its table.
-fn part_at<'a>(fault: &MapFault, at_key: Option<Marked<'a>>, at_table: Marked<'a>) -> Marked<'a> {
-    match (fault, at_key) {
-        (MapFault::Unknown { .. }, Some(marked)) => marked.at_key(),
-        (MapFault::BadValue { .. }, Some(marked)) => marked,
-        (
-            MapFault::Unknown { .. }
-            | MapFault::BadValue { .. }
-            | MapFault::Missing { .. }
-            | MapFault::NotToml { .. }
-            | MapFault::NoColumn { .. }
-            | MapFault::NoMemory,
-            _,
-        ) => at_table,
+fn part_at<'a>(wrong: Wrong, at_key: Option<Marked<'a>>, at_table: Marked<'a>) -> Marked<'a> {
+    match (wrong, at_key) {
+        (Wrong::Unknown, Some(marked)) => marked.at_key(),
+        (Wrong::BadValue, Some(marked)) => marked,
+        (Wrong::Unknown | Wrong::BadValue | Wrong::Missing, _) => at_table,
     }
 }
 
 /// What stands at a place: the key that is not known, or the value that is not allowed, if its line was found.
-fn found_at<'a>(fault: &MapFault, at_key: Option<Marked<'a>>, key: &'a str) -> Item<'a>
+fn found_at<'a>(finding: &Finding<'a>, at_key: Option<Marked<'a>>) -> Item<'a>
     ensures { is_own_plain result ≡ true }
 {
-    match (fault, at_key) {
-        (MapFault::Unknown { .. }, _) => Item::Bytes(key.as_bytes()),
-        (MapFault::BadValue { .. }, Some(marked)) => Item::Bytes(marked.value()),
-        (
-            MapFault::BadValue { .. }
-            | MapFault::Missing { .. }
-            | MapFault::NotToml { .. }
-            | MapFault::NoColumn { .. }
-            | MapFault::NoMemory,
-            _,
-        ) => Item::Absent,
+    match (finding.wrong, at_key) {
+        (Wrong::Unknown, _) => Item::Bytes(finding.key.as_bytes()),
+        (Wrong::BadValue, Some(marked)) => Item::Bytes(marked.value()),
+        (Wrong::BadValue | Wrong::Missing, _) => Item::Absent,
     }
 }
 
 /// A fault of a document, in words.
-fn sentence_of(fault: &MapFault) -> &'static str
+fn sentence_of(wrong: Wrong) -> &'static str
     ensures { is_plain result.now ≡ true }
 {
-    match fault {
-        MapFault::Unknown { .. } => "a key that is not known",
-        MapFault::BadValue { .. } => "a value that is not allowed",
-        MapFault::Missing { .. }
-        | MapFault::NotToml { .. }
-        | MapFault::NoColumn { .. }
-        | MapFault::NoMemory => "a key is absent",
+    match wrong {
+        Wrong::Missing => "a key is absent",
+        Wrong::Unknown => "a key that is not known",
+        Wrong::BadValue => "a value that is not allowed",
     }
 }
 

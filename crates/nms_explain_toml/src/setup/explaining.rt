@@ -7,17 +7,16 @@ ghost use Rattle.nms_explain_toml.specs.Ended.{ending_at, ending_of};
 
 use super::findings::{faults_at, tell_finding};
 use super::hints::text_hint;
-use super::locating::{Lines, lines_of};
+use super::locating::lines_of;
 use super::report::Report;
 use super::sentences::sentence_of;
 use super::telling::{Refusal, Summary, tell_refusal, tell_summary};
 use crate::marked::mark_at;
-use crate::told::Told;
 use nms_codes::Code;
 use nms_fees::SetupFault;
 use nms_setup_places::{Examined, Finding, NoToml, choices_in, examine};
-use nms_show::{Ending, Form, Item, ShowFault};
-use std::alloc::Global;
+use nms_show::{Ending, Form, Item, SafeText, ShowFault};
+use std::alloc::{AllocError, Global};
 use std::io::Write;
 use std::str;
 use toml::Table;
@@ -31,6 +30,7 @@ const MOST_TOLD: usize = 100;
 /// If the text is no TOML document, its one fault is C1, at the place where the parser stopped.
 ///
 /// What is written is safe to show on a terminal; at an error it is a first part of such a text.
+#[tactic(auto, using(nms_show::proofs::Offered::no_part_added))]
 pub fn explain_setup<W: Write>(
     alloc: Global,
     file: &str,
@@ -42,50 +42,56 @@ pub fn explain_setup<W: Write>(
     ensures no_text { IfOk result (λ ending. ¬ (IsUtf8 text.now) → ending ≡ Ending.SetupRefused) }
     ensures safe { Writes IsSafe (W.contents answers.old) (W.contents answers.new) result }
 {
-    let told = Told {
-        alloc,
-        form,
-        file,
-        text,
-    };
+    let mut out = SafeText::new(alloc, form);
+    let ending = tell_setup(file, text, &mut out)?;
+    out.pass_on(answers)?;
+    Ok(ending)
+}
+
+/// Reports it on a text that is not printed yet.
+fn tell_setup(file: &str, text: &[u8], out: &mut SafeText) -> Result<Ending, AllocError>
+    ensures read { IfOk result (λ ending. IsUtf8 text.now → ending ≡ ending_at (parse_document text.now)) }
+    ensures no_text { IfOk result (λ ending. ¬ (IsUtf8 text.now) → ending ≡ Ending.SetupRefused) }
+{
     match str::from_utf8(text) {
-        Ok(utf8) => explain_text(told, utf8, answers),
+        Ok(utf8) => tell_text(file, utf8, out),
         Err(error) => {
             let place = error.valid_up_to();
-            tell_no_toml(told, place, place, "the bytes are not UTF-8", answers)
+            tell_no_toml(file, text, place, place, "the bytes are not UTF-8", out)
         }
     }
 }
 
 /// Reports it for a text that is UTF-8.
-fn explain_text<W: Write>(told: Told<'_>, text: &str, answers: &mut W) -> Result<Ending, ShowFault>
+fn tell_text(file: &str, text: &str, out: &mut SafeText) -> Result<Ending, AllocError>
     ensures ending { IfOk result (λ ending. ending ≡ ending_at (parse_document text.now)) }
-    ensures safe { Writes IsSafe (W.contents answers.old) (W.contents answers.new) result }
 {
-    match examine(told.alloc, text) {
+    match examine(out.alloc(), text) {
         Ok(Examined::NoToml(NoToml { start, end, error })) => {
-            tell_no_toml(told, start, end, error.message(), answers)
+            tell_no_toml(file, text.as_bytes(), start, end, error.message(), out)
         }
-        Ok(Examined::Document(document, found)) => tell_document(told, &document, &found, answers),
-        Err(_) => Err(ShowFault::NoMemory),
+        Ok(Examined::Document(document, found)) => {
+            tell_document(file, text.as_bytes(), &document, &found, out)
+        }
+        Err(_) => Err(AllocError),
     }
 }
 
 /// Reports where and why a text is no TOML document.
-fn tell_no_toml<'a, W: Write>(
-    told: Told<'a>,
+fn tell_no_toml<'a>(
+    file: &'a str,
+    text: &'a [u8],
     start: usize,
     end: usize,
     expected: &'a str,
-    answers: &mut W,
-) -> Result<Ending, ShowFault>
+    out: &mut SafeText,
+) -> Result<Ending, AllocError>
     ensures ending { IfOk result (λ ending. ending ≡ Ending.SetupRefused) }
-    ensures safe { Writes IsSafe (W.contents answers.old) (W.contents answers.new) result }
 {
-    let marked = mark_at(told.text, start, end);
+    let marked = mark_at(text, start, end);
     let fault = SetupFault::NotToml;
     let refusal = Refusal {
-        file: told.file,
+        file,
         marked,
         fault,
         sentence: sentence_of(fault),
@@ -94,58 +100,36 @@ fn tell_no_toml<'a, W: Write>(
         key: None,
         found: Item::Absent,
         expected,
-        hint: text_hint(told.text, marked.line, marked.pair.start),
+        hint: text_hint(text, marked.line, marked.pair.start),
     };
-    tell_refusal(told.alloc, told.form, &refusal, answers)?;
+    tell_refusal(&refusal, out)?;
     let summary = Summary {
         faults: 1,
         told: 1,
         least: Some(fault),
     };
-    tell_summary(told.alloc, told.form, told.file, summary, answers)?;
+    tell_summary(file, summary, out)?;
     Ok(Ending::SetupRefused)
 }
 
 /// Reports all faults of a document.
-#[tactic(auto, using(nms_show::proofs::Offered::no_part_added))]
-fn tell_document<W: Write>(
-    told: Told<'_>,
+fn tell_document(
+    file: &str,
+    text: &[u8],
     document: &Table,
     found: &[Finding],
-    answers: &mut W,
-) -> Result<Ending, ShowFault>
+    out: &mut SafeText,
+) -> Result<Ending, AllocError>
     ensures ending { IfOk result (λ ending. ending ≡ ending_of (length found.now)) }
-    ensures safe { Writes IsSafe (W.contents answers.old) (W.contents answers.new) result }
 {
-    match lines_of(told.alloc, told.text) {
-        Ok(lines) => tell_placed(reported(told, &lines), document, found, answers),
-        Err(_) => Err(ShowFault::NoMemory),
-    }
-}
-
-/// What the report of each fault needs, with the lines of the text.
-fn reported<'a>(told: Told<'a>, lines: &'a Lines) -> Report<'a> {
-    Report {
-        alloc: told.alloc,
-        form: told.form,
-        file: told.file,
-        text: told.text,
-        lines,
-    }
-}
-
-/// As `tell_document`, given the lines of the text.
-fn tell_placed<W: Write>(
-    told: Report<'_>,
-    document: &Table,
-    found: &[Finding],
-    answers: &mut W,
-) -> Result<Ending, ShowFault>
-    ensures ending { IfOk result (λ ending. ending ≡ ending_of (length found.now)) }
-    ensures safe { Writes IsSafe (W.contents answers.old) (W.contents answers.new) result }
-{
-    let summary = tell_findings(told, document, found, answers)?;
-    tell_summary(told.alloc, told.form, told.file, summary, answers)?;
+    let lines = lines_of(out.alloc(), text)?;
+    let told = Report {
+        file,
+        text,
+        lines: &lines,
+    };
+    let summary = tell_findings(told, document, found, out)?;
+    tell_summary(file, summary, out)?;
     if found.is_empty() {
         Ok(Ending::Done)
     } else {
@@ -154,14 +138,12 @@ fn tell_placed<W: Write>(
 }
 
 /// Reports the faults that were found, and their sum.
-fn tell_findings<W: Write>(
+fn tell_findings(
     told: Report<'_>,
     document: &Table,
     found: &[Finding],
-    answers: &mut W,
-) -> Result<Summary, ShowFault>
-    ensures safe { Writes IsSafe (W.contents answers.old) (W.contents answers.new) result }
-{
+    out: &mut SafeText,
+) -> Result<Summary, AllocError> {
     let choices = choices_in(document);
     let mut summary = Summary {
         faults: 0,
@@ -171,10 +153,10 @@ fn tell_findings<W: Write>(
     for finding in found {
         let room = MOST_TOLD - summary.told;
         let faults = faults_at(document, finding);
-        tell_finding(told, choices, document, finding, room, answers)?;
+        tell_finding(told, choices, document, finding, room, out)?;
         // Only a text too long for any memory has more faults than a count.
         let Some(sum) = summary.faults.checked_add(faults) else {
-            return Err(ShowFault::NoMemory);
+            return Err(AllocError);
         };
         summary = Summary {
             faults: sum,

@@ -1,8 +1,6 @@
 //! The faults of a document, in the form of a report.
 ghost use Rattle.std.specs.Prelude.{◌≡◌, true};
 ghost use Rattle.nms_show.specs.Plain.{is_own_plain};
-ghost use Rattle.nms_show.specs.Safe.{IsSafe};
-ghost use Rattle.nms_show.specs.Written.{Writes};
 
 use super::expected::{expected_at, keys_expected};
 use super::hints::value_hint;
@@ -16,9 +14,8 @@ use nms_fees::SetupFault;
 use nms_setup_places::{
     Choices, Finding, KnownKey, SetupArray, SetupTable, Spot, name_in, rows_at,
 };
-use nms_show::{Item, ShowFault};
+use nms_show::{Item, SafeText};
 use std::alloc::{AllocError, Global};
-use std::io::Write;
 use toml::{Table, Value};
 
 /// How many faults a finding has: each key that may not stand in a table is one.
@@ -33,69 +30,56 @@ pub(crate) fn faults_at(document: &Table, finding: &Finding) -> usize {
 }
 
 /// Reports a finding, up to that many of its faults.
-#[tactic(auto, using(nms_show::proofs::Offered::nothing_added))]
-pub(crate) fn tell_finding<W: Write>(
+pub(crate) fn tell_finding(
     told: Report<'_>,
     choices: Choices,
     document: &Table,
     finding: &Finding,
     room: usize,
-    answers: &mut W,
-) -> Result<(), ShowFault>
-    ensures safe { Writes IsSafe (W.contents answers.old) (W.contents answers.new) result }
-{
+    out: &mut SafeText,
+) -> Result<(), AllocError> {
     if room == 0 {
         return Ok(());
     }
     match finding.spot {
-        Spot::OtherKeys => tell_others(told, document, finding.table, room, answers),
-        Spot::Key(key) => tell_key(told, choices, document, finding, key, answers),
-        Spot::Element => tell_element(told, finding, answers),
-        Spot::NameOf(first) => tell_again(told, document, finding, first, answers),
+        Spot::OtherKeys => tell_others(told, document, finding.table, room, out),
+        Spot::Key(key) => tell_key(told, choices, document, finding, key, out),
+        Spot::Element => tell_element(told, finding, out),
+        Spot::NameOf(first) => tell_again(told, document, finding, first, out),
     }
 }
 
 /// Reports the fault of a key that may stand in a table.
-#[tactic(auto, using(nms_show::proofs::Offered::nothing_added, nms_show::proofs::Offered::no_part_added))]
-fn tell_key<W: Write>(
+fn tell_key(
     told: Report<'_>,
     choices: Choices,
     document: &Table,
     finding: &Finding,
     key: KnownKey,
-    answers: &mut W,
-) -> Result<(), ShowFault>
-    ensures safe { Writes IsSafe (W.contents answers.old) (W.contents answers.new) result }
-{
-    let Ok(expected) = expected_at(told.alloc, choices, finding.table, key) else {
-        return Err(ShowFault::NoMemory);
-    };
+    out: &mut SafeText,
+) -> Result<(), AllocError> {
+    let expected = expected_at(out.alloc(), choices, finding.table, key)?;
     let text = expected.as_str();
     match members_of(document, finding.table) {
         Some(members) if finding.fault == SetupFault::Missing => {
-            tell_absent(told, document, finding.table, members, key, text, answers)
+            tell_absent(told, document, finding.table, members, key, text, out)
         }
-        Some(members) => tell_value(told, document, finding, members, key, text, answers),
+        Some(members) => tell_value(told, document, finding, members, key, text, out),
         None => Ok(()),
     }
 }
 
 /// Reports that a key is absent, and which similar key the table has.
-#[tactic(auto, using(nms_show::proofs::Offered::no_part_added))]
-fn tell_absent<'a, W: Write>(
+fn tell_absent<'a>(
     told: Report<'a>,
     document: &'a Table,
     table: SetupTable,
     members: &'a Table,
     key: KnownKey,
     expected: &'a str,
-    answers: &mut W,
-) -> Result<(), ShowFault>
-    ensures safe { Writes IsSafe (W.contents answers.old) (W.contents answers.new) result }
-{
-    let Ok(hint) = absent_hint(told.alloc, table, members, key) else {
-        return Err(ShowFault::NoMemory);
-    };
+    out: &mut SafeText,
+) -> Result<(), AllocError> {
+    let hint = absent_hint(out.alloc(), table, members, key)?;
     let fault = SetupFault::Missing;
     let refusal = Refusal {
         file: told.file,
@@ -109,7 +93,7 @@ fn tell_absent<'a, W: Write>(
         expected,
         hint: hint.as_str(),
     };
-    tell_refusal(told.alloc, told.form, &refusal, answers)
+    tell_refusal(&refusal, out)
 }
 
 /// The key that the table has in place of an absent one.
@@ -126,18 +110,15 @@ fn absent_hint(
 }
 
 /// Reports the fault of a key's value.
-#[tactic(auto, using(nms_show::proofs::Offered::nothing_added))]
-fn tell_value<'a, W: Write>(
+fn tell_value<'a>(
     told: Report<'a>,
     document: &'a Table,
     finding: &Finding,
     members: &'a Table,
     key: KnownKey,
     expected: &'a str,
-    answers: &mut W,
-) -> Result<(), ShowFault>
-    ensures safe { Writes IsSafe (W.contents answers.old) (W.contents answers.new) result }
-{
+    out: &mut SafeText,
+) -> Result<(), AllocError> {
     let table = finding.table;
     let Some(value) = members.get(key.text()) else {
         return Ok(());
@@ -155,7 +136,7 @@ fn tell_value<'a, W: Write>(
         expected,
         hint: value_hint(finding, value),
     };
-    tell_refusal(told.alloc, told.form, &refusal, answers)
+    tell_refusal(&refusal, out)
 }
 
 /// What stands at a key: how many tables, if their number is refused; else the value as it is written. If its line was not
@@ -188,16 +169,13 @@ fn counted_at(fault: SetupFault, value: &Value) -> Option<usize> {
 }
 
 /// Reports each key that may not stand in a table, up to that many.
-#[tactic(auto, using(nms_show::proofs::Offered::nothing_added))]
-fn tell_others<W: Write>(
+fn tell_others(
     told: Report<'_>,
     document: &Table,
     table: SetupTable,
     room: usize,
-    answers: &mut W,
-) -> Result<(), ShowFault>
-    ensures safe { Writes IsSafe (W.contents answers.old) (W.contents answers.new) result }
-{
+    out: &mut SafeText,
+) -> Result<(), AllocError> {
     let Some(members) = members_of(document, table) else {
         return Ok(());
     };
@@ -207,7 +185,7 @@ fn tell_others<W: Write>(
             break;
         }
         if !table.has_key(key.as_str()) {
-            tell_other(told, document, table, members, key.as_str(), answers)?;
+            tell_other(told, document, table, members, key.as_str(), out)?;
             left -= 1;
         }
     }
@@ -215,20 +193,15 @@ fn tell_others<W: Write>(
 }
 
 /// Reports one key that may not stand in a table, with the nearest known key.
-#[tactic(auto, using(nms_show::proofs::Offered::no_part_added))]
-fn tell_other<'a, W: Write>(
+fn tell_other<'a>(
     told: Report<'a>,
     document: &'a Table,
     table: SetupTable,
     members: &'a Table,
     key: &'a str,
-    answers: &mut W,
-) -> Result<(), ShowFault>
-    ensures safe { Writes IsSafe (W.contents answers.old) (W.contents answers.new) result }
-{
-    let Ok(hint) = other_hint(told.alloc, table, members, key) else {
-        return Err(ShowFault::NoMemory);
-    };
+    out: &mut SafeText,
+) -> Result<(), AllocError> {
+    let hint = other_hint(out.alloc(), table, members, key)?;
     let marked = match locate_key(told.lines, told.text, table, key.as_bytes()) {
         Some(marked) => marked.at_key(),
         None => marked_table(told, table),
@@ -246,7 +219,7 @@ fn tell_other<'a, W: Write>(
         expected: keys_expected(table),
         hint: hint.as_str(),
     };
-    tell_refusal(told.alloc, told.form, &refusal, answers)
+    tell_refusal(&refusal, out)
 }
 
 /// The known key that another key probably means.
@@ -266,13 +239,11 @@ fn other_hint(
 }
 
 /// Reports an element of an array that is no table.
-fn tell_element<'a, W: Write>(
+fn tell_element<'a>(
     told: Report<'a>,
     finding: &Finding,
-    answers: &mut W,
-) -> Result<(), ShowFault>
-    ensures safe { Writes IsSafe (W.contents answers.old) (W.contents answers.new) result }
-{
+    out: &mut SafeText,
+) -> Result<(), AllocError> {
     let marked = marked_table(told, finding.table);
     let refusal = Refusal {
         file: told.file,
@@ -286,28 +257,23 @@ fn tell_element<'a, W: Write>(
         expected: "a table, as after a line [[participant]] or [[symbol]]",
         hint: "",
     };
-    tell_refusal(told.alloc, told.form, &refusal, answers)
+    tell_refusal(&refusal, out)
 }
 
 /// Reports a name that an earlier element of the array has.
-#[tactic(auto, using(nms_show::proofs::Offered::no_part_added))]
-fn tell_again<'a, W: Write>(
+fn tell_again<'a>(
     told: Report<'a>,
     document: &'a Table,
     finding: &Finding,
     first: usize,
-    answers: &mut W,
-) -> Result<(), ShowFault>
-    ensures safe { Writes IsSafe (W.contents answers.old) (W.contents answers.new) result }
-{
+    out: &mut SafeText,
+) -> Result<(), AllocError> {
     // No memory holds as many elements as a number can count.
     let Some(place) = first.checked_add(1) else {
-        return Err(ShowFault::NoMemory);
+        return Err(AllocError);
     };
-    let alloc = told.alloc;
-    let Ok(expected) = format!(in alloc; "a name of its own: number {place} has it too") else {
-        return Err(ShowFault::NoMemory);
-    };
+    let alloc = out.alloc();
+    let expected = format!(in alloc; "a name of its own: number {place} has it too")?;
     let at_key = locate_key(told.lines, told.text, finding.table, b"name");
     let name = row_name(document, finding.table);
     let refusal = Refusal {
@@ -325,7 +291,7 @@ fn tell_again<'a, W: Write>(
         expected: expected.as_str(),
         hint: "",
     };
-    tell_refusal(told.alloc, told.form, &refusal, answers)
+    tell_refusal(&refusal, out)
 }
 
 /// The line to report for a table: its first line, or that of its array's key, or the text's first.

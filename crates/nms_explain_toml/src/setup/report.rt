@@ -1,13 +1,9 @@
 //! What the report of each fault of a document needs.
 use super::locating::Lines;
-use nms_show::Form;
-use std::alloc::Global;
 
 /// What the report of each fault of a document needs.
 #[derive(Clone, Copy)]
 pub(crate) struct Report<'a> {
-    pub(crate) alloc: Global,
-    pub(crate) form: Form,
     /// The file, as the call named it.
     pub(crate) file: &'a str,
     /// Its text.

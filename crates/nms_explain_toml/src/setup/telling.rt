@@ -1,21 +1,14 @@
 //! One refusal of a setup, as it is reported.
-ghost use Rattle.std.specs.Prelude.{◌≡◌, ◌&&◌, true};
-ghost use Rattle.std.specs.List.{list_all};
+ghost use Rattle.std.specs.Prelude.{◌≡◌, true};
 ghost use Rattle.nms_show.specs.Plain.{is_own_plain, is_plain};
-ghost use Rattle.nms_show.specs.Safe.{IsSafe};
-ghost use Rattle.nms_show.specs.Written.{Writes};
 
 use crate::marked::Marked;
-use crate::marking::{write_finding, write_marked};
+use crate::marking::place_in;
 use nms_codes::Code;
 use nms_fees::SetupFault;
 use nms_setup_places::SetupTable;
-use nms_show::{
-    Form, Item, ShowFault, item_if_any, item_of, words_before, write_advice, write_plain_line,
-    write_plain_object,
-};
-use std::alloc::Global;
-use std::io::Write;
+use nms_show::{Item, SafeText, item_if_any, item_of, words_before, words_round};
+use std::alloc::AllocError;
 
 /// A refusal of a setup, with the report about it.
 #[derive(Clone, Copy)]
@@ -42,30 +35,28 @@ pub(crate) struct Refusal<'a> {
 }
 
 /// Writes a refusal: its place in the file, the line with carets under what is wrong, what was found and what is
-/// expected, and what to do.
-pub(crate) fn tell_refusal<W: Write>(
-    alloc: Global,
-    form: Form,
-    refusal: &Refusal<'_>,
-    answers: &mut W,
-) -> Result<(), ShowFault>
+/// expected, and what to do. If the text is no document, the parser's message stands for what is expected.
+pub(crate) fn tell_refusal(refusal: &Refusal<'_>, out: &mut SafeText) -> Result<(), AllocError>
     requires sentence { is_plain refusal.now.sentence.now ≡ true }
     requires found { is_own_plain refusal.now.found ≡ true }
-    ensures safe { Writes IsSafe (W.contents answers.old) (W.contents answers.new) result }
 {
-    if form.is_json() {
-        return tell_object(alloc, refusal, answers);
+    if out.is_json() {
+        return tell_object(refusal, out);
     }
-    tell_place(form, refusal, answers)?;
+    tell_place(refusal, out)?;
     let (found, expected) = (refusal.found, refusal.expected);
-    write_finding(answers, form, refusal.table.is_some(), found, expected)?;
-    tell_help(form, refusal, answers)
+    if refusal.table.is_some() {
+        out.found(words_round(found), found, expected)?;
+    } else {
+        out.advice(expected)?;
+    }
+    out.advice(Code::of_setup(refusal.fault).remedy())?;
+    out.advice(refusal.hint)
 }
 
 /// Writes the line of a refusal's place, and the setup's line with carets under what is wrong.
-fn tell_place<W: Write>(form: Form, refusal: &Refusal<'_>, answers: &mut W) -> Result<(), ShowFault>
+fn tell_place(refusal: &Refusal<'_>, out: &mut SafeText) -> Result<(), AllocError>
     requires sentence { is_plain refusal.now.sentence.now ≡ true }
-    ensures safe { Writes IsSafe (W.contents answers.old) (W.contents answers.new) result }
 {
     let items = [
         Item::Text(table_words(refusal.table)),
@@ -77,8 +68,8 @@ fn tell_place<W: Write>(form: Form, refusal: &Refusal<'_>, answers: &mut W) -> R
         Item::Text(": "),
         Item::Text(refusal.sentence),
     ];
-    let code = Code::of_setup(refusal.fault).text();
-    write_marked(answers, form, refusal.file, refusal.marked, code, &items)
+    let (at, wrong) = place_in(refusal.file, refusal.marked);
+    out.refused(at, Code::of_setup(refusal.fault).text(), &items, wrong)
 }
 
 /// The words for a table, before its place.
@@ -109,22 +100,9 @@ fn place_item<'a>(table: Option<SetupTable>) -> Item<'a>
     }
 }
 
-/// Writes what to do, and what the text probably means.
-fn tell_help<W: Write>(form: Form, refusal: &Refusal<'_>, answers: &mut W) -> Result<(), ShowFault>
-    ensures safe { Writes IsSafe (W.contents answers.old) (W.contents answers.new) result }
-{
-    write_advice(answers, form, Code::of_setup(refusal.fault).remedy())?;
-    write_advice(answers, form, refusal.hint)
-}
-
 /// Writes a refusal as a JSON object.
-fn tell_object<W: Write>(
-    alloc: Global,
-    refusal: &Refusal<'_>,
-    answers: &mut W,
-) -> Result<(), ShowFault>
+fn tell_object(refusal: &Refusal<'_>, out: &mut SafeText) -> Result<(), AllocError>
     requires found { is_own_plain refusal.now.found ≡ true }
-    ensures safe { Writes IsSafe (W.contents answers.old) (W.contents answers.new) result }
 {
     let members = [
         ("what", Item::Text("refusal")),
@@ -142,7 +120,7 @@ fn tell_object<W: Write>(
         ("remedy", Item::Text(Code::of_setup(refusal.fault).remedy())),
         ("hint", item_if_any(refusal.hint)),
     ];
-    write_plain_object(alloc, answers, &members)
+    out.object(&members)
 }
 
 /// The kind of a table, if there is one.
@@ -167,75 +145,42 @@ pub(crate) struct Summary {
     pub(crate) least: Option<SetupFault>,
 }
 
-/// Writes how many faults a setup has, and the code by which it is refused.
-pub(crate) fn tell_summary<W: Write>(
-    alloc: Global,
-    form: Form,
+/// Writes how many faults a setup has, the code by which it is refused, and whether some of its faults were only counted.
+pub(crate) fn tell_summary(
     file: &str,
     summary: Summary,
-    answers: &mut W,
-) -> Result<(), ShowFault>
-    ensures safe { Writes IsSafe (W.contents answers.old) (W.contents answers.new) result }
-{
-    if form.is_json() {
-        return tell_sum_object(alloc, file, summary, answers);
-    }
-    tell_sum(form, file, summary, answers)?;
-    tell_left_out(form, summary, answers)
-}
-
-/// Writes the sum as a JSON object.
-fn tell_sum_object<W: Write>(
-    alloc: Global,
-    file: &str,
-    summary: Summary,
-    answers: &mut W,
-) -> Result<(), ShowFault>
-    ensures safe { Writes IsSafe (W.contents answers.old) (W.contents answers.new) result }
-{
-    let members = [
-        ("what", Item::Text("summary")),
-        ("file", Item::Bytes(file.as_bytes())),
-        ("faults", Item::Number(summary.faults as u64)),
-        ("told", Item::Number(summary.told as u64)),
-        ("code", code_item(summary.least)),
-    ];
-    write_plain_object(alloc, answers, &members)
-}
-
-/// Writes the line of the sum.
-fn tell_sum<W: Write>(
-    form: Form,
-    file: &str,
-    summary: Summary,
-    answers: &mut W,
-) -> Result<(), ShowFault>
-    ensures safe { Writes IsSafe (W.contents answers.old) (W.contents answers.new) result }
-{
-    let items = [
-        Item::Bytes(file.as_bytes()),
-        Item::Text(": faults: "),
+    out: &mut SafeText,
+) -> Result<(), AllocError> {
+    let file = Item::Bytes(file.as_bytes());
+    let (faults, told) = (
         Item::Number(summary.faults as u64),
+        Item::Number(summary.told as u64),
+    );
+    let code = code_item(summary.least);
+    if out.is_json() {
+        return out.object(&[
+            ("what", Item::Text("summary")),
+            ("file", file),
+            ("faults", faults),
+            ("told", told),
+            ("code", code),
+        ]);
+    }
+    out.line(&[
+        file,
+        Item::Text(": faults: "),
+        faults,
         refused_by(summary.least),
-        code_item(summary.least),
-    ];
-    write_plain_line(answers, form, &items)
-}
-
-/// Writes that some faults were only counted, if some were.
-#[tactic(auto, using(nms_show::proofs::Offered::nothing_added))]
-fn tell_left_out<W: Write>(form: Form, summary: Summary, answers: &mut W) -> Result<(), ShowFault>
-    ensures safe { Writes IsSafe (W.contents answers.old) (W.contents answers.new) result }
-{
+        code,
+    ])?;
     if summary.told == summary.faults {
         return Ok(());
     }
-    let items = [
+    out.line(&[
         Item::Text("the first "),
-        Item::Number(summary.told as u64),
+        told,
         Item::Text(" faults are reported, the others counted"),
-    ];
-    write_plain_line(answers, form, &items)
+    ])
 }
 
 /// The words before the code of a sum, if there is one.

@@ -1,9 +1,12 @@
--- `explain_file`: the reports on the records, and then the counts.
-use Rattle.nms_show.proofs.Offered.{safe_part, safe_then}
+-- `explain_file`: by the reader that is opened over the source.
+use Rattle.std.proofs.Common.{subst}
+use Rattle.std.specs.Prelude.{IfOk}
+use Rattle.nms_quote.specs.Roster.{Listing}
+use Rattle.nms_lines.specs.Lines.{reading}
+use Rattle.nms_explain.specs.Counted.{EndsBy}
 use Rattle.nms_explain.proofs.changes.explain_file.Goals as goal
 
-pub returns-in-Ok-clause-safe : goal.returns-in-Ok-clause-safe
-returns-in-Ok-clause-safe g c = safe_then _ _ _ c.in_ok-tally.ensures.safe c.in-Ok.ensures.safe
-
-pub returns-in-Err-clause-safe : goal.returns-in-Err-clause-safe
-returns-in-Err-clause-safe g c = safe_part _ _ _ c.in_ok-tally.ensures.safe c.in-Err.ensures.safe
+pub returns-clause-ending : goal.returns-clause-ending
+returns-clause-ending g c =
+    subst (λ (it : Listing). IfOk c.explain_source.result (EndsBy (reading it c.args.from) (g.R.Read.remaining c.args.source)))
+    c.roster.ensures (c.explain_source.ensures.ending (g.R.Read.remaining c.args.source) c.open_source-reader.ensures)

@@ -2,7 +2,6 @@
 use Rattle.std.proofs.Common.{sym}
 use Rattle.nms_lines.specs.Lines.{reading}
 use Rattle.csv.specs.Records.{fields_of}
-use Rattle.nms_show.proofs.Offered.{nothing_added}
 use Rattle.nms_explain.proofs.CountFacts.{tally_refused, tally_taken}
 use Rattle.nms_explain.proofs.changes.explain_record.Goals as goal
 
@@ -17,6 +16,3 @@ returns-in-Err-clause-counts g c = λ seen before.
     tally_refused (reading c.args.asked.now.roster.now c.args.asked.now.from) seen (fields_of c.args.row.now)
     c.args.tally.now c.refuse.new.self before
     c.refuse.ensures.records c.in-Err.fault (sym c.in-Err.ensures.line) c.refuse.ensures.refused c.refuse.ensures.publishes
-
-pub returns-in-Ok-clause-safe : goal.returns-in-Ok-clause-safe
-returns-in-Ok-clause-safe g c = nothing_added (g.W.Write.contents c.args.answers.now)

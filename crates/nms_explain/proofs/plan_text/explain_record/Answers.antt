@@ -1,7 +1,6 @@
 -- `explain_record`: one record more came, right or wrong.
 use Rattle.std.proofs.Common.{refl}
 use Rattle.csv.specs.Records.{fields_of}
-use Rattle.nms_show.proofs.Offered.{nothing_added}
 use Rattle.nms_explain.proofs.PlanFacts.{one_right, one_wrong}
 use Rattle.nms_explain.proofs.plan_text.explain_record.Goals as goal
 
@@ -14,6 +13,3 @@ pub returns-in-None-clause-come : goal.returns-in-None-clause-come
 returns-in-None-clause-come g c = λ seen before.
     one_right c.args.asked.now.roster.now seen (fields_of c.args.row.now) c.args.came.now _ before refl
     (c.in-None.ensures.passed seen before.walk) (c.in-None.ensures.trouble seen before.walk) refl
-
-pub returns-in-None-clause-safe : goal.returns-in-None-clause-safe
-returns-in-None-clause-safe g c = nothing_added (g.W.Write.contents c.args.answers.now)

@@ -3,7 +3,7 @@ use Rattle.std.proofs.Common.{Bool, Ok, ap, arith, refl, ◌++◌, ◌∷◌, []
 use Rattle.csv.specs.Records.{fields_of}
 use Rattle.nms_explain.proofs.PlanFacts.{none_came}
 use Rattle.nms_show.specs.Safe.{IsSafe}
-use Rattle.nms_show.proofs.Offered.{nothing_added, safe_part, safe_then, writes_err}
+use Rattle.nms_show.proofs.Offered.{nothing_added, safe_part, safe_then, whole_part, writes_err}
 use Rattle.nms_explain.proofs.plan_text.explain_records.Goals as goal
 
 pub loop-turn-init : goal.loop-turn-init
@@ -22,7 +22,7 @@ loop-turn-preserved g c = record {
       let had = c.loop-turn.invariant.come bytes reads in
       let found = c.in-Ok-true.ensures.found bytes had.0 (had.1) (ap (λ (b : Bool). Ok b) c.in-Ok-true.field-0-test) in
       (had.0 ++ fields_of c.next_record.new.row ∷ [], found, c.in_ok-explain_record-in-Ok-true.ensures.come had.0 had.2);
-  safe = safe_then _ _ _ c.loop-turn.invariant.safe c.in_ok-explain_record-in-Ok-true.ensures.safe;
+  safe = safe_then _ _ _ c.loop-turn.invariant.safe c.in_ok-pass_on-in-Ok-true.ensures.safe;
 }
 
 pub returns-in-Ok-false : goal.returns-in-Ok-false
@@ -35,5 +35,9 @@ returns-in-Ok-false g c = record {
 
 pub returns-in_err-explain_record-in-Ok-true-clause-safe : goal.returns-in_err-explain_record-in-Ok-true-clause-safe
 returns-in_err-explain_record-in-Ok-true-clause-safe g c =
-    writes_err IsSafe _ _ c.from_residual.result c.from_residual.ensures.0
-    (safe_part _ _ _ c.loop-turn.invariant.safe c.in_err-explain_record-in-Ok-true.ensures.safe)
+    writes_err IsSafe _ _ c.from_residual.result c.from_residual.ensures.0 (whole_part _ _ c.loop-turn.invariant.safe)
+
+pub returns-in_err-pass_on-in-Ok-true-clause-safe : goal.returns-in_err-pass_on-in-Ok-true-clause-safe
+returns-in_err-pass_on-in-Ok-true-clause-safe g c =
+    writes_err IsSafe _ _ c.from_residual-in_err-pass_on-in-Ok-true.result c.from_residual-in_err-pass_on-in-Ok-true.ensures.0
+    (safe_part _ _ _ c.loop-turn.invariant.safe c.in_err-pass_on-in-Ok-true.ensures.safe)

@@ -2,8 +2,8 @@
 use Rattle.std.proofs.Common.{refl}
 use Rattle.nms_explain.proofs.refusal.tell_object.Goals as goal
 
-pub write_plain_object-requires : goal.write_plain_object-requires
-write_plain_object-requires g c = record {
+pub object-requires : goal.object-requires
+object-requires c = record {
   plain =
       rw (
         c.text.ensures.plain,

@@ -1,16 +1,9 @@
--- `tell_refusal`: the place with the record, what was found, and what helps, in turn.
-use Rattle.nms_show.specs.Safe.{IsSafe}
-use Rattle.nms_show.proofs.Offered.{safe_part, safe_then, safe_writes, writes_err}
+-- `tell_refusal`: the words round what was found are printable.
 use Rattle.nms_explain.proofs.refusal.tell_refusal.Goals as goal
 
-pub returns-in_err-tell_finding : goal.returns-in_err-tell_finding
-returns-in_err-tell_finding g c = record {
-  safe = writes_err IsSafe _ _ c.from_residual-in_err-tell_finding.result c.from_residual-in_err-tell_finding.ensures.0
-      (safe_part _ _ _ c.in_ok-tell_place.ensures.safe c.in_err-tell_finding.ensures.safe);
-}
-
-pub returns : goal.returns
-returns g c = record {
-  safe = safe_writes c.tell_help.result _ _ _
-      (safe_then _ _ _ c.in_ok-tell_place.ensures.safe c.in_ok-tell_finding.ensures.safe) c.tell_help.ensures.safe;
+pub found-requires : goal.found-requires
+found-requires c = record {
+  before = c.words_round.ensures.before;
+  after = c.words_round.ensures.after;
+  found = c.requires.found;
 }

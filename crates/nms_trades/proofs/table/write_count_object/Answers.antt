@@ -2,13 +2,15 @@
 use Rattle.std.proofs.Common.{refl}
 use Rattle.nms_trades.proofs.table.write_count_object.Goals as goal
 
-pub returns : goal.returns
-returns g c = λ word name.
-    c.show_object.ensures (rw (
-      word,
-      name,
-      c.money_of.ensures,
-      c.money_of-2.ensures,
-      c.money_of-3.ensures,
-      c.money_of-4.ensures,
-    ) refl)
+pub object-requires : goal.object-requires
+object-requires c = record {
+  plain =
+      rw (
+        c.requires.what,
+        c.requires.name,
+        c.money_of.ensures,
+        c.money_of-2.ensures,
+        c.money_of-3.ensures,
+        c.money_of-4.ensures,
+      ) refl;
+}

@@ -2,20 +2,22 @@
 use Rattle.std.proofs.Common.{refl}
 use Rattle.nms_trades.proofs.table.write_count_row.Goals as goal
 
-pub returns : goal.returns
-returns g c = λ name.
-    c.show_row.ensures (rw (
-      c.column.ensures,
-      c.column-2.ensures,
-      c.column-3.ensures,
-      c.column-4.ensures,
-      c.column-5.ensures,
-      c.column-6.ensures,
-      c.column-7.ensures,
-      c.column-8.ensures,
-      c.column-9.ensures,
-      c.column-10.ensures,
-      c.money_of.ensures,
-      c.money_of-2.ensures,
-      name,
-    ) refl)
+pub row-requires : goal.row-requires
+row-requires c = record {
+  plain =
+      rw (
+        c.column.ensures,
+        c.column-2.ensures,
+        c.column-3.ensures,
+        c.column-4.ensures,
+        c.column-5.ensures,
+        c.column-6.ensures,
+        c.column-7.ensures,
+        c.column-8.ensures,
+        c.column-9.ensures,
+        c.column-10.ensures,
+        c.money_of.ensures,
+        c.money_of-2.ensures,
+        c.requires,
+      ) refl;
+}

@@ -2,6 +2,5 @@
 use Rattle.std.proofs.Common.{refl}
 use Rattle.nms_trades.proofs.table.write_totals.Goals as goal
 
-pub returns : goal.returns
-returns g c =
-    c.show_object.ensures (rw (c.rate_of.ensures, c.money_of.ensures, c.money_of-2.ensures) refl)
+pub object-requires : goal.object-requires
+object-requires c = record { plain = rw (c.rate_of.ensures, c.money_of.ensures, c.money_of-2.ensures) refl }

@@ -1,0 +1,6 @@
+-- `note_others`: at first all names are left.
+use Rattle.nms_import.proofs.NameFacts.{names_view}
+use Rattle.nms_import.proofs.faults.note_others.Goals as goal
+
+pub loop-name-init : goal.loop-name-init
+loop-name-init c = let all_names = names_view c.args.members.now.entries in cc

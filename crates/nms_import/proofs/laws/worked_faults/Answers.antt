@@ -1,0 +1,13 @@
+-- `worked_faults`: each example by computation.
+use Rattle.std.proofs.Common.{refl}
+use Rattle.nms_import.specs.Keys.{all_keys}
+use Rattle.nms_import.proofs.laws.worked_faults.Goals as goal
+
+pub returns : goal.returns
+unfolding all_keys
+returns c = record {
+  a_mapping_without_fault = refl;
+  a_misspelt_key = refl;
+  the_key_that_was_meant = refl;
+  a_letter_in_two_lists = refl;
+}

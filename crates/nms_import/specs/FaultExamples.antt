@@ -1,0 +1,41 @@
+-- Worked examples of the faults of mappings of trades. The right-hand sides are worked out by hand.
+use Rattle.std.specs.Prelude.{◌≡◌, ℕ, pos, codes, List, [], ◌∷◌, Some, None}
+use Rattle.toml.specs.Data.{Members, array, integer, item, member, no_items, no_members, string, table}
+use Rattle.nms_import.specs.declared.keys.Kind.TheVariants as kind
+use Rattle.nms_import.specs.declared.keys.TheConstants.{A_NUMBER, IN_NO_OTHER}
+use Rattle.nms_import.specs.declared.map_fault.Wrong.TheVariants as wrong
+use Rattle.nms_import.specs.Drafts.{Doc, Name, plain}
+use Rattle.nms_import.specs.Findings.{fault, faults_of}
+use Rattle.nms_import.specs.Keys.{all_keys}
+
+-- [file] kind = "trades", and five columns, of which that of the price has this name; and more tables
+abbrev pub trades : (price : List ℕ) → (more : Members) → Members
+trades price more =
+    member (codes "file") (table (member (codes "kind") (string (codes "trades")) no_members))
+    (member (codes "column") (table (member (codes "time") (integer (pos 1)) (member (codes "participant") (integer (pos 2))
+    (member (codes "symbol") (integer (pos 3)) (member price (integer (pos 4)) (member (codes "shares") (integer (pos 5)) no_members))))))
+    more)
+
+-- [flags] sweep = ["F"], nothing = ["@", "F"]
+abbrev pub flags : Members
+flags =
+    member (codes "flags") (table (member (codes "nothing") (array (item (string (codes "@")) (item (string (codes "F")) no_items)))
+    (member (codes "sweep") (array (item (string (codes "F")) no_items)) no_members))) no_members
+
+-- a document in which prize is taken for price
+abbrev pub renamed : Doc
+renamed = record {
+  keys = all_keys;
+  kind = kind.Trades;
+  members = trades (codes "prize") no_members;
+  meant = record { table = codes "column"; key = codes "price"; written = codes "prize" } ∷ [];
+}
+
+-- what the definitions say of them
+pub record FaultExamplesHold : Type 0 where
+  pub a_mapping_without_fault : faults_of (plain kind.Trades (trades (codes "price") no_members)) ≡ []
+  pub a_misspelt_key : faults_of (plain kind.Trades (trades (codes "prize") no_members))
+      ≡ fault (codes "column") (codes "prize") None wrong.Unknown [] ∷ fault (codes "column") (codes "price") None wrong.Missing A_NUMBER.now ∷ []
+  pub the_key_that_was_meant : faults_of renamed ≡ fault (codes "column") (codes "prize") None wrong.Unknown [] ∷ []
+  pub a_letter_in_two_lists : faults_of (plain kind.Trades (trades (codes "price") flags))
+      ≡ fault (codes "flags") (codes "nothing") (Some 1) wrong.BadValue IN_NO_OTHER.now ∷ []

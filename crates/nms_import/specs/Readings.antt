@@ -1,0 +1,83 @@
+-- What is read of a mapping's document. This product's own rule.
+use Rattle.std.specs.Prelude.{◌≡◌, ◌≢◌, ℕ, ◌<◌, ◌≤◌, codes, Bool, true, false, List, [], length, nat_le, nat_lt}
+use Rattle.std.specs.Prelude.{Option, Some, None, option_and_then, unwrap_or, if◌then◌else◌}
+use Rattle.std.specs.Str.{bytes_eq}
+use Rattle.nms_units.specs.declared.TheConstants.{MOST_LOT}
+use Rattle.nms_import.specs.declared.keys.Kind.TheVariants as kind
+use Rattle.nms_import.specs.declared.mapping.Mapping.{Mapping}
+use Rattle.nms_import.specs.declared.mapping.Order.TheVariants as order
+use Rattle.nms_import.specs.declared.mapping.Source.{Source}
+use Rattle.nms_import.specs.declared.mapping.Source.TheVariants as source
+use Rattle.nms_import.specs.declared.meanings.Meanings.{Meanings}
+use Rattle.nms_import.specs.declared.meanings.PriceUnit.{PriceUnit}
+use Rattle.nms_import.specs.declared.meanings.PriceUnit.TheVariants as unit
+use Rattle.nms_import.specs.declared.meanings.TimeForm.{TimeForm}
+use Rattle.nms_import.specs.declared.meanings.TimeForm.TheVariants as form
+use Rattle.nms_import.specs.Drafts.{Doc, text_at}
+use Rattle.nms_import.specs.Findings.{faults_of}
+use Rattle.nms_import.specs.Forms.{is_delimiter, zone_in}
+
+-- the unit of prices that a text names
+abbrev pub unit_named : List ℕ → Option PriceUnit
+unit_named text =
+    if bytes_eq text (codes "dollars") then Some unit.Dollars
+    else (if bytes_eq text (codes "1e-4") then Some unit.TenThousandths
+    else (if bytes_eq text (codes "1e-9") then Some unit.Nanodollars else None))
+
+-- the unit of prices
+abbrev pub unit_in : Doc → PriceUnit
+unit_in draft = unwrap_or (option_and_then unit_named (text_at draft (codes "price") (codes "unit"))) unit.Dollars
+
+-- the form of times that a text names
+abbrev pub form_named : List ℕ → Option TimeForm
+form_named text =
+    if bytes_eq text (codes "HHMMSSn") then Some form.Clock
+    else (if bytes_eq text (codes "seconds") then Some form.Seconds
+    else (if bytes_eq text (codes "unix_ns") then Some form.UnixNanoseconds
+    else (if bytes_eq text (codes "iso") then Some form.Iso else None)))
+
+-- the form of times
+abbrev pub form_in : Doc → TimeForm
+form_in draft = unwrap_or (option_and_then form_named (text_at draft (codes "time") (codes "form"))) form.Clock
+
+-- the seconds by which times are moved on
+abbrev pub seconds_in : Doc → ℕ
+seconds_in draft = unwrap_or (option_and_then zone_in (text_at draft (codes "time") (codes "zone_offset"))) 0
+
+-- what mappings of quotes and of trades both say: a zone is less than a day, and there are no words of quotes alone
+pub record AreReadOf (draft : Doc) (common : Meanings) : Type 0 where
+  pub unit : common.price_unit ≡ unit_in draft
+  pub form : common.time_form ≡ form_in draft
+  pub zone : common.zone ≡ seconds_in draft
+  pub day : common.zone < 86400
+  pub size_unit : common.size_unit ≡ 1
+  pub no_price : common.no_price.items ≡ []
+  pub said : common.said.items ≡ []
+
+-- what a mapping of quotes says: a unit of size has 1 to 1,000 shares
+pub record AreMeaningsOf (draft : Doc) (meanings : Meanings) : Type 0 where
+  pub unit : meanings.price_unit ≡ unit_in draft
+  pub form : meanings.time_form ≡ form_in draft
+  pub zone : meanings.zone ≡ seconds_in draft
+  pub day : meanings.zone < 86400
+  pub some_shares : 0 < meanings.size_unit
+  pub few_shares : meanings.size_unit ≤ MOST_LOT
+
+-- the mapping of a document that has no fault; national bests are found by their times
+pub record IsMappingOf (draft : Doc) (mapping : Mapping) : Type 0 where
+  pub faultless : faults_of draft ≡ []
+  pub timed : draft.kind ≡ kind.Bests → mapping.order ≢ order.Free
+  pub delimiter : is_delimiter mapping.file.delimiter ≡ true
+  pub meanings : AreMeaningsOf draft mapping.meanings
+
+-- the empty text in every row
+abbrev pub is_nothing : Source → Bool
+is_nothing (source.Place place) = false
+is_nothing (source.Named name) = false
+is_nothing (source.Fixed text) = nat_le (length text.items) 0
+
+-- a column that has a number is one of the first 1,000
+abbrev pub is_within : Source → Bool
+is_within (source.Place place) = nat_lt place 1000
+is_within (source.Named name) = true
+is_within (source.Fixed text) = true

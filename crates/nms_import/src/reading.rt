@@ -1,0 +1,264 @@
+//! What a mapping's document says at the keys that mappings of quotes and of trades both have: `specs/Readings`. Each value is one
+//! that is allowed there; in the place of another stands what an absent key means.
+ghost use Rattle.std.specs.Prelude.{◌≡◌, ◌<◌, ◌≤◌, IfOk, IfSome, OnOk, true};
+ghost use Rattle.nms_import.specs.Drafts.{doc_of};
+ghost use Rattle.nms_import.specs.Forms.{is_delimiter};
+ghost use Rattle.nms_import.specs.Readings.{AreReadOf, form_in, form_named, is_within, seconds_in, unit_in, unit_named};
+
+use crate::draft::Draft;
+use crate::mapping::{FileForm, Source};
+use crate::meanings::{Half, Meanings, PriceUnit, Renamed, Replaced, TimeForm, Word};
+use crate::right::{MOST_COLUMNS, fixed_text, is_delimiter, zone_in};
+use std::alloc::{AllocError, Global};
+use toml::Value;
+
+/// How a file is laid out.
+pub fn file_in(draft: Draft<'_>) -> FileForm
+    ensures { is_delimiter result.delimiter ≡ true }
+{
+    FileForm {
+        delimiter: delimiter_in(draft),
+        header: draft.is_flagged("file", "header"),
+        quotes: draft.is_flagged("file", "quotes"),
+        count: count_in(draft),
+    }
+}
+
+/// The place of the field of a last line that counts the rows before it.
+fn count_in(draft: Draft<'_>) -> Option<u16> {
+    match number_in(draft, "file", "count", MOST_COLUMNS) {
+        Some(number) => Some(number - 1),
+        None => None,
+    }
+}
+
+/// The byte between fields.
+fn delimiter_in(draft: Draft<'_>) -> u8
+    ensures { is_delimiter result ≡ true }
+{
+    match draft.text("file", "delimiter") {
+        Some(text) => match text.as_bytes() {
+            [byte] if is_delimiter(*byte) => *byte,
+            _ => b',',
+        },
+        None => b',',
+    }
+}
+
+/// The number from 1 to `most` at a key, if there is one.
+pub(crate) fn number_in(draft: Draft<'_>, table: &str, key: &str, most: u16) -> Option<u16>
+    ensures { IfSome result (λ n. (0 < n) × (n ≤ most)) }
+{
+    let number = draft.value(table, key)?.as_integer()?;
+    match u16::try_from(number) {
+        Ok(number) if 1 <= number && number <= most => Some(number),
+        Ok(_) | Err(_) => None,
+    }
+}
+
+/// What the texts of a file mean, as far as mappings of quotes and of trades both say it.
+pub fn common_in(alloc: Global, draft: Draft<'_>) -> Result<Meanings, AllocError>
+    ensures { IfOk result (AreReadOf (doc_of draft.entry)) }
+{
+    let mut all = Meanings {
+        time_form: form_in(draft),
+        zone: seconds_in(draft),
+        price_unit: unit_in(draft),
+        no_price: Vec::new(alloc),
+        size_unit: 1,
+        own_lots: false,
+        names: Vec::new(alloc),
+        same: is_same(draft),
+        replaced: Vec::new(alloc),
+        skips_symbols: draft.text("symbol", "unknown") == Some("skip"),
+        said: Vec::new(alloc),
+        half: Half::Refuse,
+        withdraws: false,
+        ends: Vec::new(alloc),
+        skips: Vec::new(alloc),
+    };
+    add_end(alloc, draft, &mut all.ends)?;
+    add_names(alloc, draft, &mut all.names)?;
+    add_replaced(draft, &mut all.replaced)?;
+    add_words(alloc, draft, "skip", "words", &mut all.skips)?;
+    Ok(all)
+}
+
+/// Whether any other participant has its own name.
+fn is_same(draft: Draft<'_>) -> bool {
+    draft.members("participant").is_none() || draft.text("participant", "*") == Some("same")
+}
+
+/// How times are written.
+fn form_in(draft: Draft<'_>) -> TimeForm
+    ensures { result ≡ form_in (doc_of draft.entry) }
+{
+    match draft.text("time", "form") {
+        Some(text) => match form_named(text) {
+            Some(form) => form,
+            None => TimeForm::Clock,
+        },
+        None => TimeForm::Clock,
+    }
+}
+
+/// The form of times that a text names.
+fn form_named(text: &str) -> Option<TimeForm>
+    ensures { result ≡ form_named text.now }
+{
+    match text {
+        "HHMMSSn" => Some(TimeForm::Clock),
+        "seconds" => Some(TimeForm::Seconds),
+        "unix_ns" => Some(TimeForm::UnixNanoseconds),
+        "iso" => Some(TimeForm::Iso),
+        _ => None,
+    }
+}
+
+/// By how many seconds times are moved on, over midnight.
+fn seconds_in(draft: Draft<'_>) -> u32
+    ensures seconds { result ≡ seconds_in (doc_of draft.entry) }
+    ensures day { result < 86400 }
+{
+    match draft.text("time", "zone_offset") {
+        Some(text) => match zone_in(text.as_bytes()) {
+            Some(zone) => zone,
+            None => 0,
+        },
+        None => 0,
+    }
+}
+
+/// What a price counts.
+fn unit_in(draft: Draft<'_>) -> PriceUnit
+    ensures { result ≡ unit_in (doc_of draft.entry) }
+{
+    match draft.text("price", "unit") {
+        Some(text) => match unit_named(text) {
+            Some(unit) => unit,
+            None => PriceUnit::Dollars,
+        },
+        None => PriceUnit::Dollars,
+    }
+}
+
+/// The unit of prices that a text names.
+fn unit_named(text: &str) -> Option<PriceUnit>
+    ensures { result ≡ unit_named text.now }
+{
+    match text {
+        "dollars" => Some(PriceUnit::Dollars),
+        "1e-4" => Some(PriceUnit::TenThousandths),
+        "1e-9" => Some(PriceUnit::Nanodollars),
+        _ => None,
+    }
+}
+
+/// Adds the word that a last line begins with, if there is one.
+fn add_end(alloc: Global, draft: Draft<'_>, words: &mut Vec<Word>) -> Result<(), AllocError> {
+    match draft.text("file", "end") {
+        Some(text) => add_word(alloc, text, words),
+        None => Ok(()),
+    }
+}
+
+/// Adds a word.
+fn add_word(alloc: Global, text: &str, words: &mut Vec<Word>) -> Result<(), AllocError> {
+    let text = Vec::from_slice(alloc, text.as_bytes())?;
+    words.push(Word { text })?;
+    Ok(())
+}
+
+/// Adds the words at a key.
+pub fn add_words(
+    alloc: Global,
+    draft: Draft<'_>,
+    table: &str,
+    key: &str,
+    words: &mut Vec<Word>,
+) -> Result<(), AllocError> {
+    for value in draft.items(table, key) {
+        if let Some(text) = value.as_str() {
+            add_word(alloc, text, words)?;
+        }
+    }
+    Ok(())
+}
+
+/// Adds the participants that have another name on the roster.
+fn add_names(alloc: Global, draft: Draft<'_>, names: &mut Vec<Renamed>) -> Result<(), AllocError> {
+    let Some(members) = draft.members("participant") else {
+        return Ok(());
+    };
+    for word in members.keys() {
+        let word = word.as_str();
+        if let Some(name) = draft.text("participant", word) {
+            if word != "*" {
+                add_name(alloc, word, name, names)?;
+            }
+        }
+    }
+    Ok(())
+}
+
+/// Adds a participant that has another name on the roster.
+fn add_name(
+    alloc: Global,
+    word: &str,
+    name: &str,
+    names: &mut Vec<Renamed>,
+) -> Result<(), AllocError> {
+    let word = Vec::from_slice(alloc, word.as_bytes())?;
+    let name = Vec::from_slice(alloc, name.as_bytes())?;
+    names.push(Renamed { word, name })?;
+    Ok(())
+}
+
+/// Adds what is replaced in symbols.
+fn add_replaced(draft: Draft<'_>, replaced: &mut Vec<Replaced>) -> Result<(), AllocError> {
+    for pair in draft.items("symbol", "replace").chunks(2) {
+        if let [from, to] = pair {
+            if let (Some(from), Some(to)) = (byte_in(from), byte_in(to)) {
+                replaced.push(Replaced { from, to })?;
+            }
+        }
+    }
+    Ok(())
+}
+
+/// The byte that a text is, if it is one.
+pub fn byte_in(value: &Value) -> Option<u8> {
+    match value.as_str()?.as_bytes() {
+        [byte] => Some(*byte),
+        _ => None,
+    }
+}
+
+/// The column at a key; an absent one is the empty text.
+pub fn source_at(alloc: Global, draft: Draft<'_>, key: &str) -> Result<Source, AllocError>
+    ensures { IfOk result (λ source. is_within source ≡ true) }
+{
+    match draft.value("column", key) {
+        Some(value) => source_of(alloc, value),
+        None => Ok(Source::nothing(alloc)),
+    }
+}
+
+/// The column that a value says: a number, a name, or a table with the text for it.
+pub(crate) fn source_of(alloc: Global, value: &Value) -> Result<Source, AllocError>
+    ensures { IfOk result (λ source. is_within source ≡ true) }
+{
+    if let Some(number) = value.as_integer() {
+        return Ok(match u16::try_from(number) {
+            Ok(number) if 1 <= number && number <= MOST_COLUMNS => Source::Place(number - 1),
+            Ok(_) | Err(_) => Source::nothing(alloc),
+        });
+    }
+    if let Some(name) = value.as_str() {
+        return Ok(Source::Named(Vec::from_slice(alloc, name.as_bytes())?));
+    }
+    match fixed_text(value) {
+        Some(text) => Ok(Source::Fixed(Vec::from_slice(alloc, text.as_bytes())?)),
+        None => Ok(Source::nothing(alloc)),
+    }
+}

@@ -1,7 +1,0 @@
--- `write_half_hours`: what was written so far is safe.
-use Rattle.nms_show.specs.Safe.{IsSafe}
-use Rattle.nms_show.specs.Written.{Adds}
-use Rattle.nms_trades.proofs.table.write_half_hours.Given as goal
-
-abbrev pub invariant-loop-place : goal.invariant-loop-place
-invariant-loop-place g l = Adds IsSafe (g.W.Write.contents l.fn.answers) (g.W.Write.contents l.answers)
