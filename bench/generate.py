@@ -30,7 +30,7 @@ FEEDS, DESKS, ORDERS = (1, 2, 4, 8), (1, 4, 16), 1000
 
 
 def name(place, letters):
-    """A name of that many capital letters: the place in base 26."""
+    """A name of n capital letters: the place in base 26."""
     return "".join(chr(ord("A") + place // 26**k % 26) for k in reversed(range(letters)))
 
 

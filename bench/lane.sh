@@ -8,7 +8,7 @@ changes=${CHANGES:-1000000}
 registry=$(dpkg -L librust-crossbeam-queue-dev | grep '/registry$' | head -n 1)
 build_peer lane_peer --config 'source.crates-io.replace-with="debian"' --config "source.debian.directory=\"$registry\""
 
-# The nanoseconds of processor time of a change, in one run of a program, for a capacity and that many senders.
+# The nanoseconds of processor time of a change, in one run of a program, for a capacity and n senders.
 nanoseconds() {
     { TIMEFORMAT='%U %S'; time "$1" <<<"lane $2 $3 $((changes / $3))" >/dev/null; } 2>&1 |
         awk -v n="$changes" '{ printf "%.0f", ($1 + $2) * 1e9 / n }'

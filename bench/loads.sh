@@ -4,7 +4,7 @@ bench=$(cd "$(dirname "${BASH_SOURCE[0]}")" && pwd)
 program=$bench/../crates/nms_tool/out/nms_tool
 loads=${BENCH_LOADS:-$bench/out}
 
-# The folder of a load of that many records.
+# The folder of a load of n records.
 load_folder() {
     local folder=$loads/$1-$2
     [ -e "$folder/load.csv" ] && [ "$folder/load.csv" -nt "$bench/generate.py" ] ||

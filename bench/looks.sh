@@ -8,7 +8,7 @@ set -eu
 looks=${LOOKS:-3000000}
 build_peer looks_peer
 
-# The microseconds of one run of a program by that many desks. Each look has to show both its rows.
+# The microseconds of one run of a program by n desks. Each look has to show both its rows.
 microseconds() {
     local from told
     from=${EPOCHREALTIME/./}

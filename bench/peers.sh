@@ -11,7 +11,7 @@ build_peer() {
     (cd "$bench/$name" && cargo build --quiet --release --offline --target-dir "$bench/out/$name" "$@")
 }
 
-# The least number that a command prints in that many runs.
+# The least number that a command prints in n runs.
 least_of() {
     local runs=$1 least= now run
     shift

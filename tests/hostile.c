@@ -8,7 +8,7 @@
  * -Wl,--wrap=malloc,--wrap=realloc,--wrap=calloc,--wrap=free,--wrap=nms_abi; tests/library.py runs it under the address and
  * undefined-behaviour sanitizers, and under valgrind.
  *
- *     hostile SETUP [ROUNDS]     the built-in setup; that many rounds of random bytes, 20,000 by default
+ *     hostile SETUP [ROUNDS]     the built-in setup; n rounds of random bytes, 20,000 by default
  *
  * Prints a line for each difference (the first forty), and last `N passed, M failed`.
  */

@@ -36,7 +36,7 @@ static uint16_t sym_of(const char *name)
     return sym;
 }
 
-/* A price field with that many decimals. */
+/* A price field with n decimals. */
 static uint64_t price_of(const char *text, int decimals)
 {
     uint64_t price = strtoull(text, NULL, 10);

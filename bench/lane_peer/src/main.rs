@@ -49,7 +49,7 @@ struct Marked {
 
 type Lane = ArrayQueue<Marked>;
 
-/// Sends a change that many times.
+/// Sends a change n times.
 fn send_all(lane: &Lane, feed: Feed, change: &Change, changes: u32) -> u64 {
     let mut sent = 0;
     for _ in 0..changes {

@@ -238,7 +238,7 @@ impl Publisher<'_> {
     }
 }
 
-/// Makes that many looks, at one symbol after another and a row of each side. Reports how many rows stood where they
+/// Makes n looks, at one symbol after another and a row of each side. Reports how many rows stood where they
 /// belong.
 fn look_often(board: &Mutex<Board>, looks: u32) -> u64 {
     let (mut rows, mut last) = (0, 0);

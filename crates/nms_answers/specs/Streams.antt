@@ -59,6 +59,6 @@ pub record AnswersFirst (settings : Settings) (bytes : Option (List ℕ)) (old n
   pub answered : AreAnswered settings requests old last before after
   pub kept : KeepsEpochs last new
 
--- the writer failed: a first part of such answers was written, and nothing else
+-- the writer failed: a prefix of such answers was written, and nothing else
 abbrev pub AnswersInPart : Settings → Option (List ℕ) → EpochDesk → EpochDesk → Option (List ℕ) → Option (List ℕ) → Type 0
 AnswersInPart settings bytes old new before after = WritesPart (λ whole. AnswersFirst settings bytes old new before whole) before after

@@ -36,7 +36,7 @@ pub enum Progress {
 /// end of the stream.
 ///
 /// `ReadFault`, `TooLong`, `NoMemory` and `NoReading` leave the answers to the requests before, whole; `WriteFault`
-/// leaves a first part of one more.
+/// leaves a prefix of one more.
 pub fn answer_stream<R: Read + Drop, W: Write, L: LaterDesks>(
     alloc: Global,
     setup: &Setup,

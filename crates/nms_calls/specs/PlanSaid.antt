@@ -62,7 +62,7 @@ said_by order n = record {
   cuts = map cut_said (cuts_of n);
 }
 
--- what numbers say for an order on a roster of that many participants, or the fault of least code: a number out of range comes
+-- what numbers say for an order on a roster of n participants, or the fault of least code: a number out of range comes
 -- first, then a participant
 abbrev pub plan_said : ℕ → Terms → NmsPlan → Result Planned CallFault
 plan_said parts order n =

@@ -79,7 +79,7 @@ fn is_cut(cut: &NmsCut) -> bool
     Price::new(cut.price).is_some() && cut.kind <= 2
 }
 
-/// The legs that numbers give, of that many participants.
+/// The legs that numbers give, of n participants.
 fn legs_of(parts: usize, numbers: &[NmsLeg]) -> ArrayVec<Leg, 32>
     requires parts { parts ≤ 32 }
     requires few { length numbers.now ≤ 32 }
@@ -109,7 +109,7 @@ fn cuts_of(numbers: &[NmsCut]) -> Certificate
     cuts
 }
 
-/// The leg that numbers give, of that many participants.
+/// The leg that numbers give, of n participants.
 fn leg_of(parts: usize, leg: &NmsLeg) -> Leg
     requires parts { parts ≤ 32 }
     requires range { is_leg leg.now ≡ true }

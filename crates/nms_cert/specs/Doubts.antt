@@ -78,7 +78,7 @@ first_failing side rows most cost cuts = position (λ cut. fails_bound rows most
 
 -- ---- the first that holds
 
--- what is doubtful of the cuts, if that many shares can be filled and the plan costs that much
+-- what is doubtful of the cuts, if n shares can be filled and the plan costs that much
 abbrev pub cuts_doubt : OrderSide → List Usable → ℕ → ℤ → List Cut → Option Doubt
 cuts_doubt side rows most cost cuts =
     when (some_lacks_cut rows cuts) doubt.CutMissing

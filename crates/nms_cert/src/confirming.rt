@@ -72,7 +72,7 @@ fn refuse_breach(found: Option<Breach>) -> Result<(), Doubt>
     Err(Doubt::Breach(breach))
 }
 
-/// Tests the cuts against the rows, if that many shares can be filled and the plan costs that much.
+/// Tests the cuts against the rows, if n shares can be filled and the plan costs that much.
 fn check_cuts(
     side: OrderSide,
     rows: &[UsableRow],

@@ -30,7 +30,7 @@ use Rattle.nms_command.specs.declared.ending.Ending.{Ending}
 use Rattle.nms_command.specs.declared.ending.Ending.TheVariants as ending
 use Rattle.nms_command.specs.declared.step.Step.TheVariants as step
 
--- a first part of a text, of an answer that is this text
+-- a prefix of a text, of an answer that is this text
 pub text_cut : (P : Option (List ℕ) → Ending → Type 0) (old new : Option (List ℕ)) (text : List ℕ) (ends : Ending)
     → ((whole : Option (List ℕ)) → Appends old whole text → P whole ends) → AppendsPart old new text
     → WritesPart (λ whole. (ends : Ending) × P whole ends) old new
@@ -38,7 +38,7 @@ text_cut P old new text ends answer cut =
     let whole = append_known old text in
     record { text = text; whole = whole; leaves = (ends, answer whole (appended old text)); meant = appended old text; cut = cut }
 
--- a first part of one answer is one of an answer that follows from it
+-- a prefix of one answer is one of an answer that follows from it
 pub writing_more : (P Q : Option (List ℕ) → Type 0) (old new : Option (List ℕ)) → ((whole : Option (List ℕ)) → P whole → Q whole)
     → WritesPart P old new → WritesPart Q old new
 writing_more P Q old new more cut =
@@ -159,7 +159,7 @@ pub not_given_stopped : (why : CommandFault) (asked : Asked) (settings : Setting
 not_given_stopped why asked settings files input old new refused kept =
     inl (not_begun why (λ whole ends. Meets asked input old whole (step.Ended ends)) old new (not_given_other why settings files refused) kept)
 
--- a first part of the answer to a request under a setup
+-- a prefix of the answer to a request under a setup
 request_cut : (command : Sub) (why : CommandFault) (asked : Asked) (settings : Settings) (input old new : Option (List ℕ))
     → asked.command ≡ command → IsSetup settings → CutsShort (Serves command settings asked input old) old new why
     → CutsShort (λ whole ends. Meets asked input old whole (step.Ended ends)) old new why

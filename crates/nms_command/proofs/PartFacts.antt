@@ -4,7 +4,7 @@ use Rattle.std.specs.Prelude.{Err, Ok, OnErr, Result}
 use Rattle.std.specs.Io.KnownBytes.{Appends}
 use Rattle.nms_lines.specs.Written.{AppendsPart}
 
--- a first part of a text is one of a longer text
+-- a prefix of a text is one of a longer text
 pub longer : (old new : Option (List ℕ)) (text more : List ℕ) → AppendsPart old new text → AppendsPart old new (text ++ more)
 longer old new text more cut = record {
   part = cut.part;

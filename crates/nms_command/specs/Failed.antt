@@ -1,5 +1,5 @@
 -- What a request had written when it failed. A script is answered record by record, so its first records were answered. Any other
--- request writes its answer when the answer is whole: so nothing of it was written, or, if the writer failed, a first part. This
+-- request writes its answer when the answer is whole: so nothing of it was written, or, if the writer failed, a prefix. This
 -- product's own rule.
 use Rattle.std.specs.Prelude.{ℕ, ◌≡◌, ◌⊎◌, Bool, true, false, List, Option, Some}
 use Rattle.nms_fees.specs.Settings.{Settings}
@@ -26,7 +26,7 @@ is_write_fault (fault.Report report_fault.WriteFault) = true
 is_write_fault (fault.Plan (plan_fault.Text text_fault.WriteFault)) = true
 is_write_fault _ = false
 
--- if the writer failed, a first part of the whole was written; if anything else failed, nothing was
+-- if the writer failed, a prefix of the whole was written; if anything else failed, nothing was
 abbrev pub LeavesPart : (Option (List ℕ) → Type 0) → Option (List ℕ) → Option (List ℕ) → Bool → Type 0
 LeavesPart Whole old new true = WritesPart Whole old new
 LeavesPart Whole old new false = new ≡ old
@@ -35,7 +35,7 @@ LeavesPart Whole old new false = new ≡ old
 abbrev pub CutsShort : (Option (List ℕ) → Ending → Type 0) → Option (List ℕ) → Option (List ℕ) → CommandFault → Type 0
 CutsShort Answers old new why = LeavesPart (λ whole. (ends : Ending) × Answers whole ends) old new (is_write_fault why)
 
--- the first records of a script were answered; if the writer failed, a first part of their answers was written
+-- the first records of a script were answered; if the writer failed, a prefix of their answers was written
 abbrev pub StopsScript : Settings → Option (List ℕ) → Option (List ℕ) → Option (List ℕ) → CommandFault → Type 0
 StopsScript settings input old new (fault.Script script_fault.WriteFault) = AnswersInPart settings input old new
 StopsScript settings input old new (fault.Script why) = AnswersBeginning settings input old new why

@@ -31,7 +31,7 @@ ShowsHelp words old new =
     (why : WordsFault) × (is_help why ≡ true) × IsRefusal (faults_in words) why × Appends old new (text_in why)
 
 -- a live run is asked for, and this is what it is given: a setup, a text of at most 1,000,000,000 bytes for each feed, and the
--- orders of some file, each of them for one of the desks. The words name that many files
+-- orders of some file, each of them for one of the desks. The words name n files
 pub record AsksRun (asked : Asked) (settings : Settings) (input : LiveInput) : Type 0 where
   pub live : asked.command ≡ sub.Live
   pub setup : IsSetup settings

@@ -7,7 +7,7 @@ use nms_lines::write_text;
 use std::io;
 use std::io::Write;
 
-/// Writes two texts, one after the other, and the end of a line, and flushes them. A failure leaves a first part of that
+/// Writes two texts, one after the other, and the end of a line, and flushes them. A failure leaves a prefix of that
 /// written, and nothing else.
 pub fn write_line<W: Write>(writer: &mut W, head: &str, code: &str) -> io::Result<()>
     ensures written { OnOk result (Appends (W.contents writer.old) (W.contents writer.new) (head.now ++ (code.now ++ 10 ∷ []))) }
@@ -19,7 +19,7 @@ pub fn write_line<W: Write>(writer: &mut W, head: &str, code: &str) -> io::Resul
     writer.flush()
 }
 
-/// Writes a text, and flushes it. A failure leaves a first part of it written, and nothing else.
+/// Writes a text, and flushes it. A failure leaves a prefix of it written, and nothing else.
 pub fn write_whole<W: Write>(writer: &mut W, text: &str) -> io::Result<()>
     ensures written { OnOk result (Appends (W.contents writer.old) (W.contents writer.new) text.now) }
     ensures part { OnErr result (AppendsPart (W.contents writer.old) (W.contents writer.new) text.now) }

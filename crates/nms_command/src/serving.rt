@@ -46,7 +46,7 @@ pub fn serve<T: Files + AllocGlobal, R: Read, W: Write>(
     }
 }
 
-/// Answers with the help, or with the version. If the writer fails, a first part was written.
+/// Answers with the help, or with the version. If the writer fails, a prefix was written.
 pub fn show_help<W: Write>(answers: &mut W, help: &str) -> Result<Ending, CommandFault>
     ensures done { IfOk result (λ ends. ends ≡ Ending.Done) }
     ensures written { OnOk result (Appends (W.contents answers.old) (W.contents answers.new) help.now) }

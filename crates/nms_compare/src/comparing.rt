@@ -41,7 +41,7 @@ pub struct Vendor<'a> {
 /// Compares the rows that a reader still has with the best bids and offers of a tape, each on the version at its time, and
 /// counts each by its finding. The first 100 that are not equal are shown.
 ///
-/// `RowsFall` comes if a row is before an earlier one, in the vendor's order. An error leaves a first part of the rows shown.
+/// `RowsFall` comes if a row is before an earlier one, in the vendor's order. An error leaves a prefix of the rows shown.
 /// The writer is not flushed.
 pub fn compare_rows<R: Read, W: Write>(
     alloc: Global,

@@ -1,8 +1,8 @@
 -- What the page of a symbol's day shows of a tape, of the executions of a file and of a plan's text, and what a page of executions
 -- shows. This product's own rule.
-use Rattle.std.specs.Prelude.{ℕ, ◌≡◌, ◌==◌, ◌&&◌, Bool, List, [], ◌∷◌, All, is_some, length, map, nat_le, not, option_copied, Option, Some, None}
-use Rattle.std.specs.Prelude.{slice_get, true, false, if◌then◌else◌}
-use Rattle.std.specs.List.{flat_map, range_with_len}
+use Rattle.std.specs.Prelude.{ℕ, ◌≡◌, ◌==◌, ◌&&◌, ◌||◌, Bool, List, [], ◌∷◌, filter, is_some, length, map, nat_le, not, option_copied}
+use Rattle.std.specs.Prelude.{Option, Some, None, true, false, if◌then◌else◌}
+use Rattle.std.specs.List.{flat_map, list_any, range_with_len}
 use Rattle.nms_quote.specs.Roster.{Listing}
 use Rattle.nms_quote.specs.Tape.{Tape}
 use Rattle.nms_quote.specs.declared.certificate.Cut.{Cut}
@@ -14,6 +14,7 @@ use Rattle.nms_lines.specs.PlanReading.{plan_in, said_by}
 use Rattle.nms_lines.specs.Records.{AreAllRecords}
 use Rattle.nms_times.specs.Clock.{since_midnight}
 use Rattle.nms_trades.specs.Files.{AreJudged}
+use Rattle.nms_trades.specs.declared.clock.Timing.{Timing}
 use Rattle.nms_trades.specs.declared.execution.Execution.{Execution}
 use Rattle.nms_trades.specs.declared.execution_file.Refusal.{Refusal}
 use Rattle.nms_trades.specs.declared.finding.Finding.{Finding}
@@ -22,7 +23,6 @@ use Rattle.nms_verdicts.specs.Listed.{AreListed}
 use Rattle.nms_verdicts.specs.declared.plan_report.Said.{Said}
 use Rattle.nms_drawing.specs.Days.{last_drawn}
 use Rattle.nms_drawing.specs.Page.{WritesPage}
-use Rattle.nms_drawing.specs.Rows.{day_if}
 use Rattle.nms_drawing.specs.declared.drawing.Frame.{Frame}
 use Rattle.nms_drawing.specs.declared.drawing.PlanState.{PlanState}
 use Rattle.nms_drawing.specs.declared.drawing.PlanState.TheVariants as state
@@ -128,40 +128,56 @@ pub record IsTradedPage (settings : Settings) (changes bytes : Option (List ℕ)
   pub judged : AreJudged settings.roster tape bytes executions refused found
   pub page : IsDayPage settings tape frame sym plan executions found old new
 
--- an execution that is judged here is of a symbol with a day
-abbrev pub IsMarked : List (Option ℕ) → Execution → Type 0
-IsMarked days execution = execution.other ≡ false → is_some (day_if (slice_get days execution.sym)) ≡ true
+-- a symbol that was traded here has a day; if none was, the roster's first symbol has it
+abbrev pub is_traded : List Execution → (sym : ℕ) → Bool
+is_traded executions sym = list_any (λ execution. not execution.other && execution.sym == sym) executions
 
-abbrev pub AreMarked : List (Option ℕ) → List Execution → Type 0
-AreMarked days executions = All (IsMarked days) executions
+abbrev pub is_any_own : List Execution → Bool
+is_any_own executions = list_any (λ execution. not execution.other) executions
+
+abbrev pub has_day : List Execution → (sym : ℕ) → Bool
+has_day executions sym = is_traded executions sym || (sym == 0 && not (is_any_own executions))
+
+-- the symbols with a day, in the roster's order, and the number of each one's day
+abbrev pub symbols_among : (symbols : ℕ) → (has : ℕ → Bool) → List ℕ
+symbols_among symbols has = filter has (range_with_len 0 symbols)
+
+abbrev pub day_among : (has : ℕ → Bool) → (sym : ℕ) → Option ℕ
+day_among has sym = if has sym then Some (length (symbols_among sym has)) else None
+
+abbrev pub days_among : (symbols : ℕ) → (has : ℕ → Bool) → List (Option ℕ)
+days_among symbols has = map (day_among has) (range_with_len 0 symbols)
+
+abbrev pub times_in : Option Timing → Option (List ℕ)
+times_in None = None
+times_in (Some timing) = Some timing.times.now
 
 -- a page of the executions of a file shows the whole tape, with times if versions are found by them
-pub record IsOfAll (tape : Tape) (has_times : Bool) (asked : Asked) (window : Window) : Type 0 where
+pub record IsOfAll (symbols : ℕ) (tape : Tape) (executions : List Execution) (timing : Option Timing) (asked : Asked) (window : Window) : Type 0 where
+  pub days : window.days.now ≡ days_among symbols (has_day executions)
+  pub times : option_copied window.times ≡ times_in timing
   pub opening : window.opening ≡ 0
   pub from : window.from ≡ 0
   pub to : window.to ≡ length tape
   pub since : window.since ≡ 0
   pub until : window.until ≡ 18446744073709551615
-  pub timed : window.timed ≡ has_times
+  pub timed : window.timed ≡ is_some timing
   pub bests : window.bests ≡ asked.bests
 
 -- it was written, with the days of the symbols that were traded
-pub record IsTradesPage (roster : Listing) (tape : Tape) (timed : Bool) (asked : Asked) (executions : List Execution)
-    (found : List (Option Finding))
-    (old new : Option (List ℕ)) : Type 0 where
+pub record IsTradesPage (roster : Listing) (tape : Tape) (timing : Option Timing) (asked : Asked) (executions : List Execution)
+    (found : List (Option Finding)) (old new : Option (List ℕ)) : Type 0 where
   pub window : Window
-  pub all : IsOfAll tape timed asked window
-  pub days : AreMarked window.days.now executions
-  pub symbols : List ℕ
-  pub page : WritesPage roster tape window symbols executions found None old new
+  pub all : IsOfAll (length roster.syms) tape executions timing asked window
+  pub page : WritesPage roster tape window (symbols_among (length roster.syms) (has_day executions)) executions found None old new
 
 -- of a file of changes and a file of executions
-pub record IsTradesFilePage (settings : Settings) (changes bytes : Option (List ℕ)) (timed : Bool) (asked : Asked) (old new : Option (List ℕ)) :
-    Type 0 where
+pub record IsTradesFilePage (settings : Settings) (changes bytes : Option (List ℕ)) (timing : Option Timing) (asked : Asked)
+    (old new : Option (List ℕ)) : Type 0 where
   pub tape : Tape
   pub file : IsFileTape settings changes tape
   pub executions : List Execution
   pub refused : List Refusal
   pub found : List (Option Finding)
   pub judged : AreJudged settings.roster tape bytes executions refused found
-  pub page : IsTradesPage settings.roster tape timed asked executions found old new
+  pub page : IsTradesPage settings.roster tape timing asked executions found old new

@@ -41,7 +41,7 @@ of_stream (stream_fault.Board refused) = fault.Board refused
 of_stream stream_fault.WriteFault = fault.WriteFault
 of_stream stream_fault.NoMemory = fault.NoMemory
 
--- whether a fault may come after a first part of an answer: any other leaves nothing written
+-- whether a fault may come after a prefix of an answer: any other leaves nothing written
 abbrev pub is_begun : DrawingFault → Bool
 is_begun (fault.Changes refused) = false
 is_begun (fault.Board refused) = false

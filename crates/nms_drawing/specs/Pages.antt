@@ -18,7 +18,7 @@ use Rattle.nms_trades.specs.declared.trades_fault.TradesFault.TheVariants as tra
 use Rattle.nms_drawing.specs.declared.executions.page_fault.PageFault.{PageFault}
 use Rattle.nms_drawing.specs.declared.executions.page_fault.PageFault.TheVariants as fault
 
--- why the executions of a file are not judged on a tape of that many changes
+-- why the executions of a file are not judged on a tape of n changes
 abbrev pub IsJudgingFault : Option Timing → (changes : ℕ) → (bytes : Option (List ℕ)) → TradesFault → Type 0
 IsJudgingFault timing changes bytes why = IsSourceFault timing changes bytes why ⊎ IsBoardFault why
 
@@ -42,7 +42,7 @@ IsDrawnFault settings changes bytes timing from to own times plan (fault.Drawing
 IsDrawnFault settings changes bytes timing from to own times plan (fault.Trades refused) =
     (tape : Tape) × IsFileTape settings changes tape × IsJudgingFault timing (length tape) bytes refused
 
--- whether a fault may come after a first part of a picture: any other leaves nothing written
+-- whether a fault may come after a prefix of a page: any other leaves nothing written
 abbrev pub is_picture_begun : PageFault → Bool
 is_picture_begun (fault.Drawing refused) = drawing_faults.is_begun refused
 is_picture_begun (fault.Trades refused) = false
@@ -60,7 +60,7 @@ abbrev pub IsOutputFault : PageFault → Type 0
 IsOutputFault (fault.Drawing refused) = drawing_faults.is_of_input refused ≡ false
 IsOutputFault (fault.Trades refused) = IsWritingFault layout.Table refused
 
--- why the executions of a file are not judged on a tape of that many changes
+-- why the executions of a file are not judged on a tape of n changes
 abbrev pub IsUnjudged : Option Timing → (changes : ℕ) → (bytes : Option (List ℕ)) → PageFault → Type 0
 IsUnjudged timing changes bytes (fault.Drawing refused) = ⊥
 IsUnjudged timing changes bytes (fault.Trades refused) = IsJudgingFault timing changes bytes refused

@@ -1,4 +1,4 @@
--- A version of a file of changes: the board after that many first changes, what is shown of it, its opening changes, and why
+-- A version of a file of changes: the board after the first n changes, what is shown of it, its opening changes, and why
 -- there is none. This product's own rule.
 use Rattle.std.specs.Prelude.{ℕ, ⊤, ◌≡◌, ◌≢◌, ◌<◌, ◌≤◌, Bool, true, false, List, Option, Some, None, IfSome, fold, length}
 use Rattle.std.specs.Io.KnownBytes.{Appends}
@@ -23,7 +23,7 @@ use Rattle.nms_drawing.specs.declared.drawing_fault.DrawingFault.TheVariants as 
 abbrev pub board_of : Sizes → Tape → Board
 board_of sizes tape = fold after (opening sizes) tape
 
--- a file has the changes of a tape, of which a version has a first part; and as many times, if there are any
+-- a file has the changes of a tape, of which a version has a prefix; and as many times, if there are any
 pub record HasVersion (settings : Settings) (bytes times : Option (List ℕ)) (n : ℕ) (tape : Tape) : Type 0 where
   pub file : IsFileTape settings bytes tape
   pub timed : IfSome times (λ all. length all ≡ length tape)

@@ -1,6 +1,9 @@
 //! The symbols and the executions of a page.
-ghost use Rattle.std.specs.Prelude.{◌≡◌, ◌<◌, [], All, IfOk, OnOk, is_some, length, map, option_copied};
-ghost use Rattle.nms_drawing.specs.Drawn.{AreMarked, day_if_same, days_of_symbol, found_of, traded_of};
+ghost use Rattle.std.specs.Prelude.{◌≡◌, ◌<◌, ◌≤◌, [], ◌∷◌, ◌++◌, All, IfOk, None, OnOk, Some, false, if◌then◌else◌, length, map, option_copied};
+ghost use Rattle.std.specs.Prelude.{replicate, slice_index_or};
+ghost use Rattle.std.specs.List.{range_with_len};
+ghost use Rattle.nms_quote.specs.declared.TheConstants.{MOST_SYMBOLS};
+ghost use Rattle.nms_drawing.specs.Drawn.{day_if_same, days_among, days_of_symbol, found_of, has_day, symbols_among, traded_of};
 
 use crate::executions::Judged;
 use nms_quote::{Roster, Sym};
@@ -92,65 +95,76 @@ pub(crate) fn traded_in(
 ) -> Result<Traded, AllocError>
     requires { All (λ execution. execution.sym < length roster.now.syms) executions.now }
     ensures len { IfOk result (λ traded. length traded.days.items ≡ length roster.now.syms) }
-    ensures marked { IfOk result (λ traded. AreMarked traded.days.items executions.now) }
+    ensures days { IfOk result (λ traded. traded.days.items ≡ days_among (length roster.now.syms) (has_day executions.now)) }
+    ensures symbols { IfOk result (λ traded. traded.symbols.items ≡ symbols_among (length roster.now.syms) (has_day executions.now)) }
+{
+    let marks = marks_of(alloc, roster.syms(), executions)?;
+    number_days(alloc, &marks)
+}
+
+/// Which symbols have a day.
+fn marks_of(
+    alloc: Global,
+    symbols: usize,
+    executions: &[Execution],
+) -> Result<Vec<bool>, AllocError>
+    requires { All (λ execution. execution.sym < symbols) executions.now }
+    ensures { IfOk result (λ marks. marks.items ≡ map (has_day executions.now) (range_with_len 0 symbols)) }
+{
+    let mut marks = Vec::new(alloc);
+    marks.resize(symbols, false)?;
+    mark_traded(&mut marks, executions);
+    Ok(marks)
+}
+
+/// Marks each symbol that was traded; the first one if none was.
+fn mark_traded(marks: &mut [bool], executions: &[Execution])
+    requires none { marks.old ≡ replicate (length marks.old) false }
+    requires symbols { All (λ execution. execution.sym < length marks.old) executions.now }
+    ensures { marks.new ≡ map (has_day executions.now) (range_with_len 0 (length marks.old)) }
+{
+    let mut is_any = false;
+    for execution in executions {
+        if !execution.other {
+            marks[usize::from(execution.sym.get())] = true;
+            is_any = true;
+        }
+    }
+    if !is_any && !marks.is_empty() {
+        marks[0] = true;
+    }
+}
+
+/// Numbers the days of the symbols that are marked.
+fn number_days(alloc: Global, marks: &[bool]) -> Result<Traded, AllocError>
+    requires { length marks.now ≤ MOST_SYMBOLS }
+    ensures days { IfOk result (λ traded. traded.days.items ≡ days_among (length marks.now) (λ sym. slice_index_or marks.now sym false)) }
+    ensures symbols { IfOk result (λ traded.
+        traded.symbols.items ≡ symbols_among (length marks.now) (λ sym. slice_index_or marks.now sym false)) }
 {
     let mut traded = Traded {
         days: Vec::new(alloc),
         symbols: Vec::new(alloc),
     };
-    match add_traded(&mut traded, roster, executions) {
-        Ok(()) => Ok(traded),
-        Err(fault) => Err(fault),
+    for place in 0..marks.len() as u16 {
+        add_day(&mut traded, Sym::new(place).unwrap(), marks)?;
     }
+    Ok(traded)
 }
 
-/// Adds the symbols of executions to none.
-fn add_traded(
-    traded: &mut Traded,
-    roster: &Roster,
-    executions: &[Execution],
-) -> Result<(), AllocError>
-    requires none { traded.old.days.items ≡ [] }
-    requires symbols { All (λ execution. execution.sym < length roster.now.syms) executions.now }
-    ensures len { OnOk result (length traded.new.days.items ≡ length roster.now.syms) }
-    ensures marked { OnOk result (AreMarked traded.new.days.items executions.now) }
+/// Adds the day of a symbol, if it has one.
+fn add_day(traded: &mut Traded, sym: Sym, marks: &[bool]) -> Result<(), AllocError>
+    requires { sym < length marks.now }
+    ensures days { OnOk result (traded.new.days.items ≡ traded.old.days.items
+        ++ (if slice_index_or marks.now sym false then Some (length traded.old.symbols.items) else None) ∷ []) }
+    ensures symbols { OnOk result (traded.new.symbols.items ≡ traded.old.symbols.items
+        ++ (if slice_index_or marks.now sym false then sym ∷ [] else [])) }
 {
-    for _ in 0..roster.syms() {
+    if !marks[usize::from(sym.get())] {
         traded.days.push(None)?;
+        return Ok(());
     }
-    mark_traded(&mut traded.days, executions);
-    number_days(&mut traded.days, &mut traded.symbols)
-}
-
-/// Gives the first symbol, and each one that was traded, some day.
-fn mark_traded(days: &mut [Option<u64>], executions: &[Execution])
-    requires { All (λ execution. execution.sym < length days.old) executions.now }
-    ensures len { length days.new ≡ length days.old }
-    ensures marked { AreMarked days.new executions.now }
-{
-    let mut is_some = false;
-    for execution in executions {
-        if !execution.other {
-            days[usize::from(execution.sym.get())] = Some(0);
-            is_some = true;
-        }
-    }
-    if !is_some && !days.is_empty() {
-        days[0] = Some(0);
-    }
-}
-
-/// Numbers the days in the order of the symbols.
-fn number_days(days: &mut [Option<u64>], symbols: &mut Vec<Sym>) -> Result<(), AllocError>
-    ensures { map is_some days.new ≡ map is_some days.old }
-{
-    for place in 0..days.len() {
-        if let (Some(_), Ok(number)) = (days[place], u16::try_from(place)) {
-            if let Some(sym) = Sym::new(number) {
-                days[place] = Some(symbols.len() as u64);
-                symbols.push(sym)?;
-            }
-        }
-    }
+    traded.days.push(Some(traded.symbols.len() as u64))?;
+    traded.symbols.push(sym)?;
     Ok(())
 }

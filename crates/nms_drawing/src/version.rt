@@ -76,7 +76,7 @@ fn show_board<W: Write>(
     }
 }
 
-/// The board of a version, after that many first changes of a file.
+/// The board of a version, after the first n changes of a file.
 ///
 /// If the file has fewer changes it is `VersionBeyondTape`; if times are given, and not as many, `Times`.
 pub(crate) fn board_at<R: Read + Drop>(

@@ -17,7 +17,7 @@ use std::io::Write;
 use std::sync::Wait;
 use std::thread::Threads;
 
-/// Makes the call that a word names, with that many changes, on the symbol at a place, and adds the result.
+/// Makes the call that a word names, with n changes, on the symbol at a place, and adds the result.
 pub(crate) fn give_call<R: AllocGlobal + Threads + Wait + Sync>(
     rt: &R,
     kind: &str,
@@ -111,7 +111,7 @@ fn push_change(changes: &mut Vec<Change>, number: u32) -> Result<(), Failed> {
     }
 }
 
-/// Adds the shares that an order for 950 fills and its cost after that many changes, and whether it was confirmed.
+/// Adds the shares that an order for 950 fills and its cost after n changes, and whether it was confirmed.
 fn tell_sweep(
     alloc: Global,
     setup: &Setup,
@@ -142,7 +142,7 @@ fn tell_sweep_on(
     or_failed(writeln!(given, "{} {} {is_confirmed}", plan.filled, plan.cost))
 }
 
-/// Applies that many changes, those that the board takes.
+/// Applies n changes, those that the board takes.
 fn apply_all(board: &mut Boards, changes: u32) -> Result<(), Failed> {
     // The prover has to see this type before a change is applied.
     let _met: Option<SideQuote> = None;

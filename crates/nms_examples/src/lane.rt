@@ -13,7 +13,7 @@ use std::sync::atomic::{AtomicBool, Ordering};
 use std::thread;
 use std::thread::Threads;
 
-/// Runs a lane of a capacity, with that many changes from each of that many threads. Reports how many each sent and how many
+/// Runs a lane of a capacity, with n changes from each of m threads. Reports how many each sent and how many
 /// were taken.
 pub(crate) fn measure<R: AllocGlobal + Threads + Wait + Sync>(
     rt: &R,
@@ -36,7 +36,7 @@ pub(crate) fn measure<R: AllocGlobal + Threads + Wait + Sync>(
     }
 }
 
-/// Sends that many changes from each sender of a new lane, each in a thread of its own, and takes them meanwhile.
+/// Sends n changes from each sender of a new lane, each in a thread of its own, and takes them meanwhile.
 fn run<R: Threads + Wait + Sync>(
     rt: &R,
     senders: Vec<Sender>,
@@ -73,7 +73,7 @@ fn run<R: Threads + Wait + Sync>(
     }
 }
 
-/// Sends a change that many times from each sender, each in a thread of its own. `None` if out of memory.
+/// Sends a change n times from each sender, each in a thread of its own. `None` if out of memory.
 fn send_from_each<R: Threads + Wait + Sync>(
     rt: &R,
     senders: Vec<Sender>,
@@ -99,7 +99,7 @@ fn send_from_each<R: Threads + Wait + Sync>(
     }
 }
 
-/// Sends a change that many times.
+/// Sends a change n times.
 pub(crate) fn send_all<R: Wait>(rt: &R, mut sender: Sender, change: &Change, changes: u32) -> Sender
     requires { sender.sent ≡ [] }
     ensures lane { result.lane ≡ sender.lane }

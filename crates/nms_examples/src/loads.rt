@@ -1,6 +1,6 @@
 //! The loads: runs that measure the lane and the looks, and the calls of `docs/CALLING.md`. Each line is a run. `lane CAPACITY
-//! SENDERS CHANGES` runs a lane of that capacity with that many changes from each of that many threads. `looks DESKS LOOKS`
-//! makes that many looks by each of that many desks. `machine`, `sweep`, `threads` and `again` take the place of a symbol and a
+//! SENDERS CHANGES` runs a lane of that capacity with n changes from each of m threads. `looks DESKS LOOKS`
+//! makes n looks by each of m desks. `machine`, `sweep`, `threads` and `again` take the place of a symbol and a
 //! number of changes.
 
 use crate::callers::give_call;
@@ -57,7 +57,7 @@ fn give_run<R: AllocGlobal + Threads + Wait + Clock + Sync>(
     }
 }
 
-/// Looks from that many desks, and adds how many rows were right.
+/// Looks from n desks, and adds how many rows were right.
 fn give_looks<R: AllocGlobal + Threads + Wait + Clock + Sync>(
     rt: &R,
     desks: u16,

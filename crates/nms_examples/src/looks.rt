@@ -32,7 +32,7 @@ struct Seat {
     _apart: [u64; 16],
 }
 
-/// Makes that many looks by each desk, each in a thread of its own, at a row of each side. Reports how many rows were right.
+/// Makes n looks by each desk, each in a thread of its own, at a row of each side. Reports how many rows were right.
 pub(crate) fn measure<R: AllocGlobal + Threads + Wait + Clock + Sync>(
     rt: &R,
     desks: u8,
@@ -46,7 +46,7 @@ pub(crate) fn measure<R: AllocGlobal + Threads + Wait + Clock + Sync>(
     }
 }
 
-/// A setup of that board and that many desks.
+/// A setup of that board and n desks.
 pub(crate) fn setup_text(alloc: Global, desks: u8) -> Result<String, AllocError> {
     let mut text = String::new(alloc);
     match write_setup(&mut text, desks) {
@@ -159,7 +159,7 @@ fn look_beside<R: Threads + Wait + Clock + Sync>(
     );
 }
 
-/// Makes that many looks, at one symbol after another and a row of each side.
+/// Makes n looks, at one symbol after another and a row of each side.
 fn look_often(seat: &mut Seat, looks: u32) {
     for look in 0..looks {
         let Some(sym) = Sym::new((u64::from(look) % SYMBOLS) as u16) else {

@@ -128,7 +128,7 @@ by_end roster other count fields more is =
 
 -- ---- the cuts
 
--- there are cuts, and with that many before them no more than 32
+-- there are cuts, and with n before them no more than 32
 abbrev cuts_fit : ℕ → Option (List Cut) → Bool
 cuts_fit count found = is_some (found >>= (λ cuts. check (nat_le (count + length cuts) 32)))
 
@@ -206,7 +206,7 @@ made false it = refl
 
 -- ---- the legs
 
--- there are legs, with that many before them no more than 32, and cuts, no more than 32
+-- there are legs, with n before them no more than 32, and cuts, no more than 32
 abbrev legs_fit : ℕ → Option (List Cut) → List Leg → Bool
 legs_fit count found legs = is_some (found >>= (λ cuts. check (nat_le (count + length legs) 32 && nat_le (length cuts) 32)))
 

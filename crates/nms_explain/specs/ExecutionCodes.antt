@@ -22,7 +22,7 @@ text_of code.BadFlags = codes "X11"
 text_of code.NoTimes = codes "X12"
 text_of code.NoChanges = codes "X13"
 
--- a field after that many others
+-- a field after n others
 abbrev at : ℕ → FieldName → Option FieldPlace
 at place name = Some (record { place = place; name = name })
 

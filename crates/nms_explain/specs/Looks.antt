@@ -8,7 +8,7 @@ pub record Look : Type 0 where
   pub at : FieldPlace
   pub wrong : Bool
 
--- the field of that name after that many others, and whether it is wrong
+-- the field of that name after n others, and whether it is wrong
 abbrev pub looked : ℕ → FieldName → Bool → Look
 looked place name wrong = record { at = record { place = place; name = name }; wrong = wrong }
 

@@ -18,7 +18,7 @@ use Rattle.nms_explain.specs.declared.places.plan_walk.PlanDue.TheVariants as du
 use Rattle.nms_explain.specs.declared.places.place.Place.{Place}
 use Rattle.nms_explain.specs.declared.places.place.Place.TheVariants as place
 
--- the first thing wrong with a record that has to begin with a word and to have that many fields
+-- the first thing wrong with a record that has to begin with a word and to have n fields
 abbrev pub plan_place : List ℕ → Bool → List Look → Record → Option Place
 plan_place word counted looks fields =
     if not (is_text word (field fields 0)) then Some (place.Field (record { place = 0; name = name.Kind }))

@@ -78,7 +78,7 @@ pub(crate) struct CodeWords {
 /// Prints what a code means and what to do about it: each meaning, if it has several. Returns whether there is such a code; if
 /// not, nothing is printed.
 ///
-/// The answers are not flushed. What is written is safe to show on a terminal; at a fault it is a first part of such a text.
+/// The answers are not flushed. What is written is safe to show on a terminal; at a fault it is a prefix of such a text.
 #[tactic(auto, using(nms_show::proofs::Offered::no_part_added))]
 pub fn explain_code<W: Write>(
     alloc: Global,

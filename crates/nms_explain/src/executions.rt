@@ -106,7 +106,7 @@ fn explain_records<R: Read, W: Write>(
     Err(TOO_LONG)
 }
 
-/// Reports the record of a number if it is the next that is refused, after that many. Returns how many were reported then.
+/// Reports the record of a number if it is the next that is refused, after n. Returns how many were reported then.
 fn explain_record<R: Read>(
     asked: &Asked<'_>,
     reader: &Reader<RecordSource<R>>,

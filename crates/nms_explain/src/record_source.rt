@@ -105,7 +105,7 @@ impl<R> RecordSource<R> {
         point_at(&self.kept, self.lines, self.kept.len())
     }
 
-    /// The place among the kept bytes of the byte that follows that many passed on.
+    /// The place among the kept bytes of the byte that follows n passed on.
     fn place_of(&self, given: u64) -> usize {
         if given <= self.passed {
             0
@@ -173,7 +173,7 @@ impl<R: Read> Read for RecordSource<R> {
         ensures bytes { ReadConsumes (left_of R.remaining self.old) (left_of R.remaining self.new) result buf.new }
     {
         if self.forget().is_none() {
-            // No source has that many bytes.
+            // No source has so many bytes.
             return Err(io::Error::from(io::ErrorKind::InvalidData));
         }
         if self.kept.reserve(buf.len()).is_err() {

@@ -33,7 +33,7 @@ impl Point {
     }
 }
 
-/// Where the field after that many others stands, with its quotes; the end of the text if it has fewer.
+/// Where the field after n others stands, with its quotes; the end of the text if it has fewer.
 pub(crate) fn span_of(text: &[u8], place: usize) -> Span {
     let mut quoting = Quoting::Start;
     let mut start = 0;
@@ -96,7 +96,7 @@ pub(crate) fn point_at(text: &[u8], lines: LineCount, at: usize) -> Option<Point
     })
 }
 
-/// Where the name after that many others stands, among those that a field joins by `+`.
+/// Where the name after n others stands, among those that a field joins by `+`.
 pub(crate) fn name_span(text: &[u8], field: Span, nth: usize) -> Span {
     let mut start = field.start;
     let mut passed = 0;

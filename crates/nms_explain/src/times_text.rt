@@ -21,7 +21,7 @@ const A_TIME: &str =
 /// Reports why no version is found by a file of times: its first line that is no time (H1), or else each line whose time is before
 /// that of the line above it (H2), at most 100 of them. It ends with `Refused` if there is one.
 ///
-/// The answers are not flushed. What is written is safe to show on a terminal; at a fault it is a first part of such a text.
+/// The answers are not flushed. What is written is safe to show on a terminal; at a fault it is a prefix of such a text.
 #[tactic(auto, using(nms_show::proofs::Offered::no_part_added))]
 pub fn explain_times<W: Write>(
     alloc: Global,

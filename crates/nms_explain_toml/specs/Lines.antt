@@ -97,7 +97,7 @@ pair_of line key from_key (Some (found, rest)) =
 abbrev pub pair_in : List ℕ → List ℕ → Option Pair
 pair_in line key = pair_of line key (trim_start line) (key_at (trim_start line))
 
--- the places of a key and its value, moved by that many bytes
+-- the places of a key and its value, moved by n bytes
 abbrev pub moved : Pair → ℕ → Pair
 moved pair bytes = record {
   key = pair.key + bytes;
@@ -106,7 +106,7 @@ moved pair bytes = record {
   end = pair.end + bytes;
 }
 
--- the places of a key and of a value in a line of that many bytes: each begins before it ends, and ends in the line
+-- the places of a key and of a value in a line of n bytes: each begins before it ends, and ends in the line
 pub record IsIn (long : ℕ) (pair : Pair) : Type 0 where
   pub key : pair.key ≤ pair.key_end
   pub key_end : pair.key_end ≤ long

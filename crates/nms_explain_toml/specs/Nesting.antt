@@ -18,7 +18,7 @@ outer_nest = record { within = Plain; depth = 0; skipped = 0 }
 abbrev pub entered : Within → ℕ → Nest → Nest
 entered within more nest = record { within = within; depth = nest.depth; skipped = more }
 
--- with that many brackets and braces open
+-- with n brackets and braces open
 abbrev pub at_depth : ℕ → Nest → Nest
 at_depth depth nest = record { within = nest.within; depth = depth; skipped = 0 }
 

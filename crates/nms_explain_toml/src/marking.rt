@@ -14,7 +14,7 @@ use std::io::Write;
 
 /// Writes the line of a refusal's place, and the text's line with carets under what is marked. It is not flushed.
 ///
-/// What is added is safe to show on a terminal. `WriteFault` leaves a first part of the lines.
+/// What is added is safe to show on a terminal. `WriteFault` leaves a prefix of the lines.
 pub fn write_marked<'a, W: Write>(
     answers: &mut W,
     form: Form,
@@ -49,7 +49,7 @@ pub(crate) fn place_in<'a>(file: &'a str, marked: Marked<'a>) -> (Location<'a>, 
 /// Writes what stands at a key of a document, and what is expected there; if the text is no document, the parser's message. It
 /// is not flushed.
 ///
-/// What is added is safe to show on a terminal. `WriteFault` leaves a first part of the lines.
+/// What is added is safe to show on a terminal. `WriteFault` leaves a prefix of the lines.
 pub fn write_finding<'a, W: Write>(
     answers: &mut W,
     form: Form,

@@ -65,7 +65,7 @@ impl Nest {
         self.within == Within::Comment
     }
 
-    /// Whether a byte here is TOML's own, with that many brackets and braces open.
+    /// Whether a byte here is TOML's own, with n brackets and braces open.
     pub(crate) fn is_plain_at(self, depth: usize) -> bool
         ensures { result ≡ ((is_plain self.within && self.skipped == 0) && self.depth == depth) }
     {
@@ -166,7 +166,7 @@ impl Nest {
         self.at_depth(if self.depth == 0 { 0 } else { self.depth - 1 })
     }
 
-    /// After a byte of a text in these quotes, which have that many bytes after the first. A backslash may escape a byte.
+    /// After a byte of a text in these quotes, which have n bytes after the first. A backslash may escape a byte.
     fn after_quoted(self, rest: &[u8], quotes: &[u8], more: u8, escapes: bool) -> Nest
         ensures value { result ≡ after_quoted quotes.now more escapes self rest.now }
         ensures depth { result.depth ≡ self.depth }
@@ -191,7 +191,7 @@ impl Nest {
         }
     }
 
-    /// With that many brackets and braces open.
+    /// With n brackets and braces open.
     fn at_depth(self, depth: usize) -> Nest
         ensures { result ≡ at_depth depth self }
     {

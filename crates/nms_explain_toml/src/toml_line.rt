@@ -50,7 +50,7 @@ pub struct Pair {
 }
 
 impl Pair {
-    /// The same, moved by that many bytes.
+    /// The same, moved by n bytes.
     pub(crate) fn moved(self, bytes: usize) -> Pair
         requires key { self.key + bytes < 2 ^ 64 }
         requires key_end { self.key_end + bytes < 2 ^ 64 }

@@ -53,13 +53,13 @@ first_sent (sent ∷ more) = sent.changes
 abbrev pub taken_in : Known → List Marked
 taken_in known = unwrap_or known.taken []
 
--- what a sender's pass knows: what was sent for its feed, that many changes
+-- what a sender's pass knows: what was sent for its feed, n changes
 pub record IsSender (known : Known) (feed : Feed) (count : ℕ) : Type 0 where
   pub one : known ≡ sender_view feed (first_sent known.sent)
   pub counted : count ≡ length (first_sent known.sent)
   pub within : count ≤ MOST_SENT
 
--- what the taker's pass knows, in a lane of that many senders: what was taken, that many changes
+-- what the taker's pass knows, in a lane of n senders: what was taken, m changes
 pub record IsTaker (known : Known) (senders count : ℕ) : Type 0 where
   pub one : known ≡ taker_view senders (taken_in known)
   pub few : senders ≤ MOST_FEEDS

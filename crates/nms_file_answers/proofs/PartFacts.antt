@@ -21,7 +21,7 @@ use Rattle.nms_files.specs.ChangeFile.{IsFileTape}
 use Rattle.nms_file_answers.specs.ReportFile.{ReportsFile}
 use Rattle.nms_file_answers.specs.PlanFile.{PlansOn}
 
--- a first part of the report
+-- a prefix of the report
 pub report_cut : (settings : Settings) (bytes old new : Option (List ℕ)) (sym : ℕ) (seen : Seen) (roster : Listing)
     → (tape : Tape) × IsFileTape settings bytes tape × (seen ≡ view_of (sizes_of settings.roster) tape sym) → roster ≡ settings.roster
     → (text : List ℕ) × IsReport roster seen text × AppendsPart old new text → WritesPart (ReportsFile settings bytes sym old) old new
@@ -41,7 +41,7 @@ report_cut settings bytes old new sym seen roster (tape, file, is_seen) same_ros
       cut = cut;
     }
 
--- a first part of a plan and its certificate
+-- a prefix of a plan and its certificate
 pub plan_cut : (settings : Settings) (seen : Seen) (order : Terms) (old new : Option (List ℕ)) (plan : Plan) (cuts : List Cut)
     (fees : Charges) (roster : Listing) → fees ≡ settings.fees → roster ≡ settings.roster
     → IsAccepted seen order fees plan cuts → IsOptimal (usable seen order fees) order.shares (given_by plan.legs.items)

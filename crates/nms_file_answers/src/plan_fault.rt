@@ -15,7 +15,7 @@ pub enum PlanFault {
     Changes(ChangesFault),
     /// B1: no board was made. Nothing was written.
     Board(BoardFault),
-    /// L12 or L13: there was no memory for the text, and nothing was written; or the writer failed, and a first part of
+    /// L12 or L13: there was no memory for the text, and nothing was written; or the writer failed, and a prefix of
     /// the text was written, and nothing else.
     Text(TextFault),
 }

@@ -21,7 +21,7 @@ use std::io::{Read, Write};
 /// (17 CFR 242.600, "intermarket sweep order").
 ///
 /// The plan is accepted with its certificate on what the changes show, with the fees of the setup: no lawful plan fills more,
-/// or as much for less. The file is read first. Only a writer that fails leaves something written: a first part of that text.
+/// or as much for less. The file is read first. Only a writer that fails leaves something written: a prefix of that text.
 /// The order's symbol is of the setup's roster, and so are the participants that it names.
 pub fn plan_changes<R: Read + Drop, W: Write>(
     alloc: Global,

@@ -19,7 +19,7 @@ use std::io::{Read, Write};
 
 /// Writes the report of a symbol of the roster after all the changes of a file: one write, flushed.
 ///
-/// The file is read first. Only `WriteFault` leaves something written: a first part of that report.
+/// The file is read first. Only `WriteFault` leaves something written: a prefix of that report.
 pub fn report_changes<R: Read + Drop, W: Write>(
     alloc: Global,
     setup: &Setup,

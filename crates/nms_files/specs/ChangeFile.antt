@@ -19,7 +19,7 @@ pub record IsTapeOf (settings : Settings) (records : List Record) (tape : Tape) 
   pub said : AreSaid (change_reading settings.roster) records tape
   pub within : length tape ≤ settings.tape_limit
 
--- why a line is refused after that many changes: its own fault, else that the tape has no room
+-- why a line is refused after n changes: its own fault, else that the tape has no room
 abbrev pub IsRefusedAfter : Settings → ℕ → Result Change LineFault → ChangesFault → Type 0
 IsRefusedAfter settings taken (Err own) refused = refused ≡ fault.Line own
 IsRefusedAfter settings taken (Ok change) refused = (refused ≡ fault.TapeFull) × (settings.tape_limit ≤ taken)

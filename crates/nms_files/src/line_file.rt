@@ -78,7 +78,7 @@ fn take_lines<R: Read, T: FileItem>(
             Err(fault) => return Err(fault),
         }
     }
-    // No source has that many records.
+    // No source has so many records.
     Err(RecordFault::Failed)
 }
 

@@ -21,7 +21,7 @@ abbrev TakesSome : State → State → Type 0
 TakesSome old new = (before : List Event) → IsAfter old before
     → (takes : List Event) × All (λ event. took event ≡ true) takes × IsAfter new (before ++ takes)
 
--- that many more are taken
+-- n more are taken
 abbrev with_more : State → ℕ → State
 with_more state count = record state { pending = state.pending + count }
 
@@ -39,7 +39,7 @@ takes_more old now new r some went before h =
       subst (IsAfter new) (append_assoc before so_far.0 (event ∷ [])) (goes_on now new (before ++ so_far.0) event went so_far.2),
     )
 
--- that many takings succeed if as many changes are queued and the tape has room for them
+-- n takings succeed if as many changes are queued and the tape has room for them
 takes_some : (old : State) (count : ℕ) → old.pending + count ≤ length old.changes → old.board.applied + old.pending + count ≤ old.most_taken
     → TakesSome old (with_more old count)
 takes_some old zero queued room = subst (TakesSome old) (ap (λ (p : ℕ). record old { pending = p }) (omega arith)) (takes_none old)

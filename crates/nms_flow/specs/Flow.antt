@@ -23,7 +23,7 @@ room_of state = record { sizes = state.board.sizes; queue = state.most_queued; t
 abbrev pub room_under : Settings → Room
 room_under settings = record { sizes = sizes_of settings.roster; queue = settings.queue; tape = settings.tape_limit }
 
--- the machine's state once these were sent, that many of them taken, and that many published
+-- the machine's state once these were sent, n of them taken, and m published
 pub record StandsAt (state : State) (at : Standing) : Type 0 where
   pub board : StandsFor state.board (version_at at)
   pub changes : state.changes ≡ drop at.published at.sent

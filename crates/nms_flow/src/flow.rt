@@ -300,7 +300,7 @@ fn apply_all(board: &mut Boards, changes: &[Marked])
     }
 }
 
-/// Makes room for that many changes. It fails only if there was less.
+/// Makes room for n changes. It fails only if there was less.
 fn make_room(queue: &mut VecDeque<Marked>, most: usize) -> Result<(), AllocError>
     requires { deque_len queue.old ≤ most }
     ensures items { queue.new.items ≡ queue.old.items }

@@ -10,7 +10,7 @@ use Rattle.nms_show.specs.Safe.{IsSafe}
 use Rattle.nms_show.specs.Written.{AddsPart, Writes}
 use Rattle.nms_show.proofs.Offered.{both_true, whole_part}
 
--- whatever came of a call, the writer has a first part of a safe text
+-- whatever came of a call, the writer has a prefix of a safe text
 pub shown_part : {T E : Type 0} (r : Result T E) (x y : Option (List ℕ)) → Writes IsSafe x y r → AddsPart IsSafe x y
 shown_part (Ok t) x y more = whole_part x y more
 shown_part (Err e) x y more = more

@@ -29,7 +29,7 @@ pub record Noted : Type 0 where
   pub spans : List (Option Span)
   pub lasts : LastLines
 
--- nothing yet, of that many symbols
+-- nothing yet, of n symbols
 abbrev pub noted_nothing : Order → (count : Option ℕ) → (symbols : ℕ) → Noted
 noted_nothing promised count symbols = record {
   order = promised;

@@ -3,7 +3,7 @@ use std::alloc::AllocError;
 use std::fmt;
 use thiserror::Error;
 
-/// Why an import ended early. What was written until then is a first part of the texts.
+/// Why an import ended early. What was written until then is a prefix of the texts.
 #[derive(Clone, Copy, Debug, Drop, Error)]
 pub enum ImportFault {
     /// E1: a file could not be read.

@@ -64,7 +64,7 @@ impl Work {
 /// A row that makes no change of its own may give one: a refused row withdraws what its participant showed of its symbol,
 /// unless the mapping keeps it.
 ///
-/// After an error a first part of both texts was written. The writers are not flushed.
+/// After an error a prefix of both texts was written. The writers are not flushed.
 pub fn import_rows<R: Read, C: Write, T: Write, E: Write>(
     columns: &Columns,
     meanings: &Meanings,

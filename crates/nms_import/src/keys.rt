@@ -345,13 +345,16 @@ pub fn keys_text(
     if kind == Kind::Bests && table == "column" && other == "participant" {
         return String::from_str(alloc, "bid_participant and offer_participant in its place");
     }
-    let mut text = String::new(alloc);
-    let mut between = if is_long(kind, table) { "one of " } else { "" };
+    let begun = if is_long(kind, table) { "one of " } else { "" };
+    let mut text = String::from_str(alloc, begun)?;
+    let mut has_one = false;
     for row in &KEYS {
         if is_of(row, kind, table) {
-            text.push_str(between)?;
+            if has_one {
+                text.push_str(", ")?;
+            }
             text.push_str(row.1)?;
-            between = ", ";
+            has_one = true;
         }
     }
     Ok(text)

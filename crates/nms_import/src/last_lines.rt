@@ -37,7 +37,7 @@ impl LastLines {
         }
     }
 
-    /// Begins a file, after that many rows of others.
+    /// Begins a file, after n rows of others.
     pub fn begin_file(&mut self, rows: u64)
         ensures { self.new ≡ in_file self.old rows }
     {
@@ -54,7 +54,7 @@ impl LastLines {
         self.ended = true;
     }
 
-    /// Ends a file, after that many rows of all files.
+    /// Ends a file, after n rows of all files.
     pub fn end_file(&mut self, rows: u64)
         ensures { self.new ≡ after_file self.old rows }
     {

@@ -76,7 +76,7 @@ impl Notes {
         Notes::of_symbols(alloc, roster.syms(), order, count)
     }
 
-    /// Of no rows, with room for that many symbols.
+    /// Of no rows, with room for n symbols.
     pub fn of_symbols(
         alloc: Global,
         symbols: usize,
@@ -125,7 +125,7 @@ impl Notes {
         self.lasts.short
     }
 
-    /// Begins a file, after that many rows of others.
+    /// Begins a file, after n rows of others.
     pub fn begin_file(&mut self, rows: u64)
         ensures { self.new ≡ record self.old { lasts = in_file self.old.lasts rows } }
     {
@@ -139,7 +139,7 @@ impl Notes {
         self.lasts.note(row, number);
     }
 
-    /// Ends a file, after that many rows of all files.
+    /// Ends a file, after n rows of all files.
     pub fn end_file(&mut self, rows: u64)
         ensures { self.new ≡ record self.old { lasts = after_file self.old.lasts rows } }
     {
@@ -213,7 +213,7 @@ impl Notes {
     }
 }
 
-/// No changes yet, of that many symbols.
+/// No changes yet, of n symbols.
 fn no_spans(alloc: Global, symbols: usize) -> Result<Vec<Option<Span>>, AllocError>
     ensures { IfOk result (λ spans. spans.items ≡ replicate symbols None) }
 {

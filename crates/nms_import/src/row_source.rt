@@ -218,7 +218,7 @@ impl<R> RowSource<R> {
         self.source
     }
 
-    /// The next row begins after that many bytes.
+    /// The next row begins after n bytes.
     pub(crate) fn begin_row(&self, ended: u64) {
         self.lines.ended.set(ended);
     }
@@ -239,7 +239,7 @@ impl<R: Read> Read for RowSource<R> {
         ensures bytes { ReadConsumes (unread R.remaining self.old) (unread R.remaining self.new) result buf.new }
     {
         if self.lines.forget().is_none() {
-            // No source has that many bytes.
+            // No source has so many bytes.
             return Err(io::Error::from(io::ErrorKind::InvalidData));
         }
         if self.lines.last.reserve(buf.len()).is_err() {

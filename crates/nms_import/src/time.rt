@@ -290,7 +290,7 @@ fn point_and_fraction(text: &[u8]) -> Option<u64>
     }
 }
 
-/// Appends the line of a time. With `numbers` it has the number of the row. After an error a first part of it may stand there.
+/// Appends the line of a time. With `numbers` it has the number of the row. After an error a prefix of it may stand there.
 pub fn append_line(out: &mut Vec<u8>, numbers: bool, row: u64, time: u64) -> Result<(), AllocError>
     ensures { OnOk result (out.new.items ≡ out.old.items ++ line_of numbers row time) }
 {

@@ -57,7 +57,7 @@ impl TradeWork {
 /// Imports the rows of trades that a reader still has: writes the records of the executions that they make, in order, and
 /// counts every outcome. The counts, and the numbers of the rows, go on from those of earlier files.
 ///
-/// After an error a first part of the text was written. The writer is not flushed.
+/// After an error a prefix of the text was written. The writer is not flushed.
 pub fn import_trades<R: Read, W: Write, E: Write>(
     columns: &TradeColumns,
     meanings: &TradeMeanings,

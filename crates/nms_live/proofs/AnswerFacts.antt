@@ -14,7 +14,7 @@ enumerate_append n (x ∷ xs) ys =
     ap (λ (l : List (ℕ × _)). (n, x) ∷ l) (enumerate_append (n + 1) xs ys
     ∙ ap (λ (m : ℕ). enumerate_from (n + 1) xs ++ enumerate_from m ys) k)
 
--- that many first elements, and one more
+-- the first n elements, and one more
 pub take_more : {X : Type 0} (xs : List X) (place : ℕ) (x : X) → place < length xs → get_or xs place x ≡ x
     → take (place + 1) xs ≡ take place xs ++ x ∷ []
 take_more xs place x below is =

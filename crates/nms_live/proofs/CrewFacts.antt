@@ -82,7 +82,7 @@ fresh_feeds : (lane : _) (fs : List Feed) → map (λ s. s.feed) (map (fresh lan
 fresh_feeds lane [] = refl
 fresh_feeds lane (f ∷ fs) = ap (λ l. f ∷ l) (fresh_feeds lane fs)
 
--- the ends of a lane that was just opened for that many texts
+-- the ends of a lane that was just opened for n texts
 pub fresh_ends : (given : Given) (count : ℕ) (taker : Taking) (senders : List Sending) → senders ≡ map (fresh taker.lane) (take count feeds)
     → taker.senders ≡ count → taker.taken ≡ []
     → length given.feeds.items ≡ count → AreFreshEnds (texts_of given) taker senders

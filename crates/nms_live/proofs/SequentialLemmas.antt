@@ -99,7 +99,7 @@ module _ (room : Room) (roster : Listing) (basis : Answer → Seen) where
     ne_eqb at.taken room.tape (λ e. omega (arith, e, left)),
   ) refl
 
-  -- how many are queued, of that many sent
+  -- how many are queued, of n sent
   queued : (at : Standing) → length (queue_at at) ≡ length at.sent - at.taken
   queued at = length-drop at.taken (changes_in at.sent) ∙ ap (λ n. n - at.taken) (length-map at.sent (λ (m : Marked). m.change))
 

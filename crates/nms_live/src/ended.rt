@@ -30,7 +30,7 @@ impl Ended {
         self.flags[usize::from(feed.place())].store(true, Ordering::SeqCst);
     }
 
-    /// Whether the workers of that many first feeds have ended.
+    /// Whether the workers of the first n feeds have ended.
     pub(crate) fn have_first(&self, count: usize) -> bool {
         self.flags
             .iter()

@@ -108,11 +108,11 @@ fn send_rows<R: Wait, G: Gate>(
             Err(_) => return Err(LiveFault::NoMemory),
         }
     }
-    // No text has that many records.
+    // No text has so many records.
     Err(LiveFault::NoMemory)
 }
 
-/// Sends the change that a record says, with that many sent before it.
+/// Sends the change that a record says, with n sent before it.
 fn send_record<R: Wait, G: Gate>(
     means: &Means<'_, R, G>,
     setup: &Setup,

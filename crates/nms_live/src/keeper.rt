@@ -41,7 +41,7 @@ impl Model for Keeper {
 }
 
 impl Keeper {
-    /// Keeps a tape that was just opened. It makes room for that many changes and publishings, if there is memory: so
+    /// Keeps a tape that was just opened. It makes room for n changes and publishings, if there is memory: so
     /// nothing that was taken in has to move while the feeds send.
     pub(crate) fn new(alloc: Global, mut publisher: Publisher, changes: usize) -> Self
         requires { publisher.published ≡ [] }

@@ -35,7 +35,7 @@ parted roster changes i =
     ∙ flat_map-append record_text (map (change_record roster) (take i changes)) (map (change_record roster) (drop i changes)))
     ∙ ap (changes_text roster) (take-append-drop i changes)
 
--- a first part of a text is one of a longer text
+-- a prefix of a text is one of a longer text
 part_wider : (old new : Option (List ℕ)) (text more : List ℕ) → AppendsPart old new text → AppendsPart old new (text ++ more)
 part_wider old new text more part = record {
   part = part.part;

@@ -9,7 +9,7 @@ use Rattle.nms_flow.specs.Flow.{State, IsAfter, room_of, room_under}
 use Rattle.nms_flow.specs.Run.{Event, changes_in, sent_by}
 use Rattle.nms_scripts.specs.Script.{AnswersFrom}
 
--- that many records were answered, and these are the changes that were sent
+-- n records were answered, and these are the changes that were sent
 pub record HasSent (settings : Settings) (machine : State) (sent : List Change) (done : ℕ) : Type 0 where
   pub records : List Record
   pub events : List Event

@@ -66,7 +66,7 @@ pub(crate) struct Kept<'a> {
 }
 
 impl<'a> Kept<'a> {
-    /// Of no rows, with room for that many symbols.
+    /// Of no rows, with room for n symbols.
     pub(crate) fn new(
         alloc: Global,
         mapping: &'a Mapping,

@@ -22,7 +22,7 @@ pub(crate) struct Progress {
 }
 
 impl Progress {
-    /// For a file of that many bytes, none of which has been read.
+    /// For a file of n bytes, none of which has been read.
     pub(crate) fn new(total: u64, began: Duration) -> Self {
         Progress {
             total,

@@ -35,7 +35,7 @@ cases_int a b = by_lt_z a b (λ less. inl less) (λ most. inr most)
 pub times-suc : (z : ℤ) (n : ℕ) → z *ℤ pos (suc n) ≡ z *ℤ pos n +ℤ z
 times-suc z n = *ℤ_comm z (pos (suc n)) ∙ suc_ℤ-*ℤ (pos n) z ∙ ap (λ x. x +ℤ z) (*ℤ_comm (pos n) z)
 
--- that many and that many more
+-- n and m more
 pub times-plus : (z : ℤ) (m n : ℕ) → z *ℤ pos (m + n) ≡ z *ℤ pos m +ℤ z *ℤ pos n
 times-plus z m zero = omega (arith, ints, *ℤ-zero z, ap (λ k. z *ℤ pos k) (let e : m + 0 ≡ m = omega arith in e))
 times-plus z m (suc n) =

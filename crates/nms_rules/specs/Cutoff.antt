@@ -43,7 +43,7 @@ savings_part cutoff marginal row = if is_pooled cutoff row then int_max (margina
 abbrev pub savings : ℤ → ℤ → List Usable → ℤ
 savings cutoff marginal rows = amount (savings_part cutoff marginal) rows
 
--- the least that filling that many shares can cost, by the marginal: the rest costs that much a share, less the savings
+-- the least that filling n shares can cost, by the marginal: the rest costs that much a share, less the savings
 abbrev pub least_cost : List Usable → ℕ → ℤ → ℤ → ℤ
 least_cost rows most cutoff marginal =
     swept_cost cutoff rows +ℤ marginal *ℤ pos (most - swept cutoff rows) -ℤ savings cutoff marginal rows

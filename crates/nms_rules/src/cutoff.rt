@@ -1,4 +1,4 @@
-//! What must be swept at a cutoff, what the pool has, and the least that filling that many shares can cost:
+//! What must be swept at a cutoff, what the pool has, and the least that filling n shares can cost:
 //! `specs/Cutoff`.
 ghost use Rattle.std.specs.Prelude.{◌≡◌, ◌≤◌, ◌*◌, ◌^◌, ◌-ℤ◌, ◌≤ℤ◌, neg_ℤ, pos, length};
 ghost use Rattle.std.specs.Int.{int_max};
@@ -184,7 +184,7 @@ fn savings(rows: &[UsableRow], cutoff: Rank, marginal: Money) -> Money
     sum
 }
 
-/// The least cost of filling that many shares at that rank and no worse, by a marginal: the price, in nanodollars, of
+/// The least cost of filling n shares at that rank and no worse, by a marginal: the price, in nanodollars, of
 /// one more share. This product's own rule.
 ///
 /// The marginal is from -10^18 to 10^18.

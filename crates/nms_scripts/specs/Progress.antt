@@ -14,7 +14,7 @@ use Rattle.nms_fees.specs.Settings.{Settings}
 use Rattle.nms_flow.specs.Run.{Event}
 use Rattle.nms_scripts.specs.Script.{AnswersFrom, AnswersInPart, IsTooLong, is_refusal}
 
--- that many records were answered, that many of them refused, and the answers were written
+-- n records were answered, m of them refused, and the answers were written
 pub record HasAnswered (settings : Settings) (machine : State) (old new : Option (List ℕ)) (done refused : ℕ) : Type 0 where
   pub records : List Record
   pub events : List Event

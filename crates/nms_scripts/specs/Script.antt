@@ -135,7 +135,7 @@ tally_of records events told = record {
   published = published_by events;
 }
 
--- that many came first, and the text has one more
+-- n came first, and the text has one more
 abbrev pub IsTooLong : Option (List ℕ) → List Record → Type 0
 IsTooLong bytes records = (length records ≡ MOST_RECORDS) × (next : Record) × BeginRecords bytes (records ++ next ∷ [])
 
@@ -160,7 +160,7 @@ pub record AnswersBeginning (settings : Settings) (bytes old new : Option (List 
   pub written : Appends old new (text_of told)
   pub long : fault ≡ script_fault.TooLong → IsTooLong bytes records
 
--- a script whose writer failed: what was written is a first part of the answer to the first records of the text
+-- a script whose writer failed: what was written is a prefix of the answer to the first records of the text
 abbrev pub AnswersInPart : Settings → (bytes old new : Option (List ℕ)) → Type 0
 AnswersInPart settings bytes old new = WritesPart (λ whole. AnswersBeginning settings bytes old whole script_fault.WriteFault) old new
 

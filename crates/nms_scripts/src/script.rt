@@ -44,7 +44,7 @@ struct Script {
 ///
 /// A refused record is answered by `ERR`, its number and the code. It changes nothing, except that `F` keeps what it
 /// took before a full tape. `ReadFault`, `TooLong` (more than 10,000,000 records) and `NoMemory` leave the answers to
-/// the records before; `WriteFault` leaves a first part of the answers to the records that were read. No fault leaves
+/// the records before; `WriteFault` leaves a prefix of the answers to the records that were read. No fault leaves
 /// anything else.
 pub fn run_script<R: Read + Drop, W: Write>(
     alloc: Global,

@@ -91,7 +91,7 @@ pub appends_nothing : (known : Option (List ℕ)) (roster : Listing) (more : Lis
 appends_nothing None roster more none = tt
 appends_nothing (Some bytes) roster more none = rw none (sym (append-nil bytes))
 
--- none or all of a text is a first part of it
+-- none or all of a text is a prefix of it
 pub no_part : (known : Option (List ℕ)) (text : List ℕ) → AppendsPart known known text
 no_part known text = record { part = []; rest = text; split = refl; written = Appends-nil known }
 

@@ -35,7 +35,7 @@ use std::sync::Wait;
 /// `serve` runs one in threads, over paths. A server of one's own calls it in the thread that takes, with any two writers, and
 /// gives the desks of the same opening to the threads that look.
 ///
-/// If a publishing fails, a file may have a first part of a text, or all of it. A later batch would follow that part: so end the
+/// If a publishing fails, a file may have a prefix of a text, or all of it. A later batch would follow that part: so end the
 /// keeper.
 pub struct Keeper<'a, X: Write, Y: Write> {
     roster: &'a Roster,
@@ -112,7 +112,7 @@ impl<'a, X: Write, Y: Write> Keeper<'a, X, Y> {
     /// changes of this board, which are written to its file and then published. So a look shows the same before and after.
     ///
     /// This keeper stays as it is, also at a fault: `NoMemory`, `TapeFull` if the new tape has no room for the opening changes,
-    /// or `NotWritten`. Then the publishing of the new tape has ended, and its files may have a first part of a text.
+    /// or `NotWritten`. Then the publishing of the new tape has ended, and its files may have a prefix of a text.
     pub fn next<R: Wait>(
         &self,
         alloc: Global,
@@ -281,7 +281,7 @@ impl<'a, X: Write, Y: Write> Keeper<'a, X, Y> {
     /// either can't be written, nothing is published: so both writes have ended well before any desk sees the changes.
     /// `waiting` returns how many there are.
     ///
-    /// `NotWritten` if a writer fails, which may have taken a first part, or `NoMemory`. Then the changes still wait, and no
+    /// `NotWritten` if a writer fails, which may have taken a prefix, or `NoMemory`. Then the changes still wait, and no
     /// desk sees them.
     #[tactic(auto, using(crate::proofs::KeeperFacts::stands_still, crate::proofs::KeeperFacts::as_long_published))]
     pub fn publish<R: Wait>(&mut self, rt: &R) -> Result<(), ServeFault>

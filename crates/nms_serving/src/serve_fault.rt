@@ -11,7 +11,7 @@ use std::fmt;
 use thiserror::Error;
 
 /// Why a run ended early. The tape's file has whole batches, in order; only the last write to a
-/// stream that fails may have left a first part.
+/// stream that fails may have left a prefix.
 #[derive(Clone, Copy, Debug, PartialEq, Eq, Error)]
 pub enum ServeFault {
     /// E1: a stream could not be opened.

@@ -58,7 +58,7 @@ abbrev pub array_key : SetupArray → KnownKey
 array_key array.Participant = key.Participant
 array_key array.Symbol = key.Symbol
 
--- the element of an array after that many others
+-- the element of an array after n others
 abbrev pub row_table : SetupArray → ℕ → SetupTable
 row_table array.Participant place = of.Participant place
 row_table array.Symbol place = of.Symbol place

@@ -26,7 +26,7 @@ pub enum Form {
     Year,
     /// A whole number up to the first either way, and not over the second, its cap.
     Charge(u32, u32),
-    /// The letter of one of that many first feeds.
+    /// The letter of one of the first n feeds.
     Letter(u8),
     /// The name of an element of the array.
     Name(SetupArray),

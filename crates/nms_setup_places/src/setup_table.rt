@@ -36,7 +36,7 @@ impl SetupArray {
         }
     }
 
-    /// The element of the array after that many others.
+    /// The element of the array after n others.
     pub fn element(self, place: usize) -> SetupTable
         ensures { result ≡ row_table self place }
     {

@@ -18,7 +18,7 @@ two = record { parts = 2; lots = 100 ∷ 40 ∷ [] }
 abbrev pub one : Sizes
 one = record { parts = 2; lots = 40 ∷ [] }
 
--- that many shares at a price in 1/10,000 dollar
+-- n shares at a price in 1/10,000 dollar
 abbrev pub at : ℕ → ℕ → Option Content
 at price shares = Some (record { price = price; shares = shares })
 

@@ -31,7 +31,7 @@ pub enum Shard {
 /// written with their times, in order, and every outcome is counted. As in a plain import a refused row withdraws what its
 /// participant showed, unless the mapping keeps it.
 ///
-/// An error leaves a first part of both texts written. The writers are not flushed.
+/// An error leaves a prefix of both texts written. The writers are not flushed.
 pub fn import_shard<R: Read, C: Write, T: Write, E: Write>(
     columns: &Columns,
     meanings: &Meanings,

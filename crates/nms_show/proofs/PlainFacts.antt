@@ -56,7 +56,7 @@ nothing_added x = adds_none IsSafe x nothing
 pub no_part_added : (x : Option (List ℕ)) → AddsPart IsSafe x x
 no_part_added x = adds_no_part IsSafe x nothing
 
--- a text that was added is a first part of itself
+-- a text that was added is a prefix of itself
 pub whole_part : (x y : Option (List ℕ)) → Adds IsSafe x y → AddsPart IsSafe x y
 whole_part x y more = record {
   text = more.text;

@@ -132,7 +132,7 @@ join_printable a b first second = printable_append b first second
 pub join_safe : (a b : List ℕ) → IsSafe a → IsSafe b → IsSafe (a ++ b)
 join_safe a b first second = safe_append b first second
 
--- one more byte of printable ASCII after a first part of a text
+-- one more byte of printable ASCII after a prefix of a text
 pub printable_more : (n : ℕ) (text : List ℕ) (c : ℕ) → take (n + 1) text ≡ take n text ++ c ∷ [] → 32 ≤ c → c ≤ 126
     → IsPrintable (take n text) → IsPrintable (take (n + 1) text)
 printable_more n text c split low high before =

@@ -12,7 +12,7 @@ use std::io::Write;
 
 /// Writes items and the end of a line. It is not flushed.
 ///
-/// If the items' own texts are printable, what is added to the writer is safe to show; at a failure it is a first part of
+/// If the items' own texts are printable, what is added to the writer is safe to show; at a failure it is a prefix of
 /// such a text.
 pub fn write_line<W: Write>(
     answers: &mut W,
@@ -95,7 +95,7 @@ fn spare_of(column: &Column<'_>) -> (usize, usize) {
     if column.right { (spare, 0) } else { (0, spare) }
 }
 
-/// Writes a printable text that many times.
+/// Writes a printable text n times.
 pub(crate) fn write_many<W: Write>(
     answers: &mut W,
     text: &[u8],

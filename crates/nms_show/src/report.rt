@@ -80,7 +80,7 @@ pub fn write_plain_object<W: Write>(
 
 /// Writes the line of a refusal's place: file, line, column and code, and then the items. It is not flushed.
 ///
-/// What is added is safe to show. `WriteFault` leaves a first part of the line.
+/// What is added is safe to show. `WriteFault` leaves a prefix of the line.
 pub(crate) fn write_place<W: Write>(
     answers: &mut W,
     form: Form,
@@ -99,7 +99,7 @@ pub(crate) fn write_place<W: Write>(
 /// Writes the line of a refusal's place, as `write_place` does, and its text with carets under the part that is wrong. It is not
 /// flushed.
 ///
-/// What is added is safe to show. `WriteFault` leaves a first part of the lines.
+/// What is added is safe to show. `WriteFault` leaves a prefix of the lines.
 pub fn write_refused<W: Write>(
     answers: &mut W,
     form: Form,
@@ -153,7 +153,7 @@ fn write_plain_items<W: Write>(
 
 /// Writes what was found, between the two words that belong to it, and then what is expected. It is not flushed.
 ///
-/// What is added is safe to show. `WriteFault` leaves a first part of the line.
+/// What is added is safe to show. `WriteFault` leaves a prefix of the line.
 pub fn write_found<'x, W: Write>(
     answers: &mut W,
     form: Form,
@@ -190,7 +190,7 @@ pub fn words_round(found: Item<'_>) -> (&'static str, &'static str)
 
 /// Writes a line of advice; nothing if there is none. It is not flushed.
 ///
-/// What is added is safe to show, whatever the advice quotes of a file. `WriteFault` leaves a first part of the line.
+/// What is added is safe to show, whatever the advice quotes of a file. `WriteFault` leaves a prefix of the line.
 #[tactic(auto, using(crate::proofs::PlainFacts::nothing_added))]
 pub fn write_advice<W: Write>(answers: &mut W, form: Form, advice: &str) -> Result<(), ShowFault>
     ensures safe { Writes IsSafe (W.contents answers.old) (W.contents answers.new) result }

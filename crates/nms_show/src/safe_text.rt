@@ -154,7 +154,7 @@ impl SafeText {
 
     /// Gives the text to a writer, and begins anew. It is not flushed.
     ///
-    /// `WriteFault`, the one fault, leaves a first part of the text written.
+    /// `WriteFault`, the one fault, leaves a prefix of the text written.
     #[tactic(auto, using(crate::proofs::PlainFacts::safe_none))]
     pub fn pass_on<W: Write>(&mut self, answers: &mut W) -> Result<(), ShowFault>
         ensures empty { self.new ≡ [] }

@@ -18,7 +18,7 @@ const MOST_SHOWN: usize = 400;
 /// character is shown as `\n`, `\r`, `\t`, `\x1b` or `\u{202e}`, a byte that is not UTF-8 as `\xff`, a backslash as
 /// two. After 400 bytes the number of further bytes follows. It is not flushed.
 ///
-/// What is added is safe to show. `WriteFault` leaves a first part of it.
+/// What is added is safe to show. `WriteFault` leaves a prefix of it.
 pub fn write_shown<W: Write>(answers: &mut W, bytes: &[u8]) -> Result<(), ShowFault>
     ensures { Writes IsPrintable (W.contents answers.old) (W.contents answers.new) result }
 {

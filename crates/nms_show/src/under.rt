@@ -155,7 +155,7 @@ fn write_spaces<W: Write>(answers: &mut W, ahead: &str, near: &[u8]) -> Result<(
     write_many(answers, b" ", columns_of_bytes(near))
 }
 
-/// Writes that many carets.
+/// Writes n carets.
 fn write_marks<W: Write>(answers: &mut W, form: Form, count: usize) -> Result<(), ShowFault>
     ensures { Writes IsSafe (W.contents answers.old) (W.contents answers.new) result }
 {

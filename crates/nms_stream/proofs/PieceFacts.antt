@@ -46,7 +46,7 @@ sends_more old now new waited came between more waits first next = record {
       ∙ ap (λ (t : List ℕ). first.sent ++ t) next.all ∙ sym (append_assoc first.sent next.sent waits);
 }
 
--- pieces, then a first part of what waits and comes
+-- pieces, then a prefix of what waits and comes
 pub part_behind : (old now new : Option (List ℕ)) (waited came between more : List ℕ) → Sends old now waited came between
     → AppendsPart now new (between ++ more) → AppendsPart old new (waited ++ (came ++ more))
 part_behind old now new waited came between more first cut =
@@ -54,7 +54,7 @@ part_behind old now new waited came between more first cut =
     (sym (sym (append_assoc waited came more) ∙ ap (λ (t : List ℕ). t ++ more) first.all ∙ append_assoc first.sent between more))
     (part_more old now new first.sent (between ++ more) first.written cut)
 
--- a first part of a text is one of what the text begins
+-- a prefix of a text is one of what the text begins
 pub part_of_longer : (old new : Option (List ℕ)) (text more : List ℕ) → AppendsPart old new text → AppendsPart old new (text ++ more)
 part_of_longer old new text more cut = record {
   part = cut.part;
@@ -73,7 +73,7 @@ pub last_sent : (old now new : Option (List ℕ)) (came waits : List ℕ) → Se
 last_sent old now new came waits first last =
     subst (Appends old new) (sym first.all) (appends-more old now new first.sent waits first.written last)
 
--- a first part of the stream of a file
+-- a prefix of the stream of a file
 pub file_cut : (result : Result ⊤ StreamFault) (settings : Settings) (bytes : Option (List ℕ)) (asked : Option ℕ)
     (old new : Option (List ℕ)) (tape : Tape) (text : List ℕ) → IsFileTape settings bytes tape
     → text ≡ stream_text settings.roster asked tape → OnErr result (AppendsPart old new text)
@@ -94,7 +94,7 @@ pub anyway_failed : {A E P : Type 0} (result : Result A E) → P → OnErr resul
 anyway_failed (Ok x) holds = tt
 anyway_failed (Err e) holds = holds
 
--- the header and the lines of that many versions
+-- the header and the lines of n versions
 abbrev pub told_to : Listing → Option ℕ → Tape → ℕ → List ℕ
 told_to roster asked tape count = text_of (header ∷ flat_map (lines_behind roster asked tape) (range_with_len 0 count))
 
@@ -128,7 +128,7 @@ front roster asked tape count (suc more) =
           ∙ append_assoc (told_to roster asked tape count) rest last,
     )
 
--- a first part of it is one of the whole stream
+-- a prefix of it is one of the whole stream
 pub part_of_stream : (old new : Option (List ℕ)) (roster : Listing) (asked : Option ℕ) (tape : Tape) (count : ℕ) → count ≤ length tape
     → AppendsPart old new (told_to roster asked tape count) → AppendsPart old new (stream_text roster asked tape)
 unfolding stream_text
@@ -144,7 +144,7 @@ pub told_all : (roster : Listing) (asked : Option ℕ) (tape : Tape) (count : �
 unfolding stream_text
 told_all roster asked tape count within end = ap (told_to roster asked tape) (omega (arith, within, end))
 
--- pieces, then a first part of what waits
+-- pieces, then a prefix of what waits
 pub last_part : (old now new : Option (List ℕ)) (came waits : List ℕ) → Sends old now [] came waits → AppendsPart now new waits
     → AppendsPart old new came
 last_part old now new came waits first cut =

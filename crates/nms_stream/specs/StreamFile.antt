@@ -26,7 +26,7 @@ is_of_file (fault.Board refused) = false
 is_of_file fault.WriteFault = false
 is_of_file fault.NoMemory = false
 
--- whether a fault came after the stream was begun: it leaves a first part written, and any other leaves nothing
+-- whether a fault came after the stream was begun: it leaves a prefix written, and any other leaves nothing
 abbrev pub is_begun : StreamFault → Bool
 is_begun (fault.Changes refused) = false
 is_begun (fault.Board refused) = false

@@ -28,7 +28,7 @@ const PIECE: usize = 65_536;
 /// Streams the changes of a file: a header, then a line exactly when the best bid, best offer or market of a symbol
 /// that is asked for changes; in order of versions, then of symbols. Without a symbol all of the roster are asked for.
 ///
-/// The file is read first. `Changes` and `Board` leave nothing written, `WriteFault` and `NoMemory` a first part of
+/// The file is read first. `Changes` and `Board` leave nothing written, `WriteFault` and `NoMemory` a prefix of
 /// the stream, and nothing else. Beyond the file's changes memory is taken for a board and some 128 KiB of lines.
 pub fn stream_file<R: Read + Drop, W: Write>(
     alloc: Global,

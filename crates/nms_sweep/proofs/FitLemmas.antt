@@ -16,7 +16,7 @@ use Rattle.nms_sweep.proofs.TotalLemmas.{total_append}
 abbrev pub shown : List Usable → ℕ
 shown rows = total (λ row. row.size) rows
 
--- a price at which that many can be filled
+-- a price at which n can be filled
 pub record Fits (rows : List Usable) (most : ℕ) (row : Usable) : Type 0 where
   pub sweeps : swept row.rank rows ≤ most
   pub reaches : most ≤ swept row.rank rows + pool row.rank rows

@@ -30,7 +30,7 @@ share_cost cutoff number last (row ∷ rows) =
 
 -- ---- the cuts
 
--- what the cut at a cutoff says, if that many shares must be swept and the pool has that many
+-- what the cut at a cutoff says, if n shares must be swept and the pool has m
 abbrev pub kind_by : List Usable → ℕ → ℤ → ℕ → ℕ → CutKind
 kind_by by_cost most cutoff swept pool =
     if nat_lt most swept then TooMuch
@@ -98,7 +98,7 @@ below_part cutoff marginal row = if is_below cutoff marginal row then row.size e
 abbrev pub below : ℤ → ℤ → List Usable → ℕ
 below cutoff marginal rows = total (below_part cutoff marginal) rows
 
--- what a row gets, if that many shares are left to take at the marginal
+-- what a row gets, if n shares are left to take at the marginal
 abbrev pub share_of : ℤ → ℤ → ℕ → Usable → ℕ
 share_of cutoff marginal left row =
     if is_swept cutoff row then row.size else if is_below cutoff marginal row then row.size else if is_level cutoff marginal row then min

@@ -42,13 +42,13 @@ abbrev pub up_to : ℤ → ℤ → List Usable → ℕ
 up_to cutoff cost rows = total (up_to_part cutoff cost) rows
 
 -- the cost of one share of the pool, by its number, the cheapest first: the cost of some row of the pool. Fewer shares
--- than the number cost less, and at least that many cost no more. For number 0, what the cheapest costs
+-- than the number cost less, and at least n cost no more. For number 0, what the cheapest costs
 pub record IsShareCost (rows : List Usable) (cutoff : ℤ) (number : ℕ) (cost : ℤ) : Type 0 where
   pub some : Any (λ row. (is_pooled cutoff row ≡ true) × (row.cost ≡ cost)) rows
   pub fewer : below cutoff cost rows < max number 1
   pub as_many : number ≤ up_to cutoff cost rows
 
--- the marginal of a price at which that many can be filled: the cost of the last share that is needed from the pool
+-- the marginal of a price at which n can be filled: the cost of the last share that is needed from the pool
 pub record IsMarginalAt (rows : List Usable) (most : ℕ) (cutoff marginal : ℤ) : Type 0 where
   pub sweeps : swept cutoff rows ≤ most
   pub reaches : most ≤ swept cutoff rows + pool cutoff rows

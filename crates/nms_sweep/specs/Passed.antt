@@ -26,7 +26,7 @@ pub record IsCounted (before : List Usable) (passed : Passed) : Type 0 where
   pub low : neg_ℤ (pos (passed.rows * 2 ^ 100)) ≤ℤ passed.cost
   pub high : passed.cost ≤ℤ pos (passed.rows * 2 ^ 100)
 
--- that many must be swept at the next price, and they cost that much
+-- n must be swept at the next price, and they cost that much
 abbrev pub IsSweptNext : List Usable → ℕ → ℤ → List Usable → Type 0
 IsSweptNext rows shares cost [] = Unit {0}
 IsSweptNext rows shares cost (row ∷ later) = (shares ≡ swept row.rank rows) × (cost ≡ swept_cost row.rank rows)

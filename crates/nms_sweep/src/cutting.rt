@@ -14,7 +14,7 @@ use nms_quote::{Certificate, Cut, CutKind, OrderSide};
 use nms_rules::Rank;
 use nms_units::MOST_SHARES;
 
-/// Puts a cut for each cutoff to come into an empty certificate, if that many shares can be filled. It returns the cutoff
+/// Puts a cut for each cutoff to come into an empty certificate, if n shares can be filled. It returns the cutoff
 /// of least cost, of equals the best price; `None` if no cutoff can be filled at. The rows come in the order of their
 /// costs; they need not have those at prices where more must be swept than can be filled.
 pub(crate) fn put_cuts(
@@ -47,7 +47,7 @@ pub(crate) fn put_cuts(
     best
 }
 
-/// What the cut at a cutoff says, and what the cutoff offers, if that many shares can be filled.
+/// What the cut at a cutoff says, and what the cutoff offers, if n shares can be filled.
 fn tried(
     side: OrderSide,
     by_cost: &[PricedRow],

@@ -34,7 +34,7 @@ pub(crate) fn put_legs(
     }
 }
 
-/// As `put_legs`, but at a cutoff, with that many shares left at the marginal.
+/// As `put_legs`, but at a cutoff, with n shares left at the marginal.
 #[tactic(auto, unfolding(crate::specs::Choice::legs_of))]
 fn put_legs_at(
     cutoff: Rank,
@@ -132,7 +132,7 @@ fn below_part(row: &PricedRow, cutoff: Rank, marginal: Money) -> u64
     }
 }
 
-/// What a row gets, if that many shares are left to take at the marginal.
+/// What a row gets, if n shares are left to take at the marginal.
 fn share_of(cutoff: Rank, marginal: Money, left: u64, row: &PricedRow) -> u64
     ensures share { result ≡ share_of cutoff marginal left row.now }
     ensures within { result ≤ MOST_SIZE }

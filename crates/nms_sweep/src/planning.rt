@@ -104,7 +104,7 @@ pub(crate) fn fill(
 }
 
 /// Puts the first of rows, which come in the order of their prices, into an empty list in the order of their costs. At
-/// the price of any other row more must be swept than that many shares, so no plan of that many trades there.
+/// the price of any other row more must be swept than n shares, so no plan of n shares trades there.
 #[tactic(auto, using(crate::proofs::SumFacts::total_none, crate::proofs::SumFacts::total_more))]
 fn put_reachable(rows: &[PricedRow], most: u64, by_cost: &mut ArrayVec<PricedRow, MOST_ROWS>)
     requires few { length rows.now ≤ MOST_ROWS }
@@ -125,7 +125,7 @@ fn put_reachable(rows: &[PricedRow], most: u64, by_cost: &mut ArrayVec<PricedRow
     }
 }
 
-/// Whether all later rows are at worse prices, where more must be swept than that many shares if the protected ones so
+/// Whether all later rows are at worse prices, where more must be swept than n shares if the protected ones so
 /// far show that sum.
 fn is_last(rows: &[PricedRow], at: usize, most: u64, sum: u64) -> bool
     requires at { at < length rows.now }

@@ -9,7 +9,7 @@ use nms_board::MOST_ROWS;
 use nms_rules::{MOST_SIZE, Rank};
 use nms_units::{MOST_SHARES, Money};
 
-/// What that many shares of a pool cost, the cheapest first.
+/// What n shares of a pool cost, the cheapest first.
 #[derive(Clone, Copy)]
 pub(crate) struct Taken {
     /// What the last of them costs with its fee, in nanodollars; if none, the cost of the cheapest.
@@ -18,7 +18,7 @@ pub(crate) struct Taken {
     pub(crate) cost: Money,
 }
 
-/// What that many shares of the pool at a cutoff cost, the cheapest first, in one pass. The rows come in the order of
+/// What n shares of the pool at a cutoff cost, the cheapest first, in one pass. The rows come in the order of
 /// their costs.
 #[tactic(auto, unfolding(crate::specs::Choice::share_cost, crate::specs::Taken::taken_cost))]
 pub(crate) fn take_cheapest(by_cost: &[PricedRow], cutoff: Rank, number: u64) -> Taken
@@ -56,7 +56,7 @@ fn has_last(row: &PricedRow, cutoff: Rank, number: u64) -> bool
     row.is_pooled(cutoff) && number <= u64::from(row.size)
 }
 
-/// What is taken with that many shares of a row.
+/// What is taken with n shares of a row.
 fn with_shares(taken: Taken, row: &PricedRow, shares: u64) -> Taken
     requires shares { shares ≤ MOST_SIZE }
     requires low { neg_ℤ (pos (2 ^ 110)) ≤ℤ taken.cost }

@@ -22,7 +22,7 @@ use std::test::Fail;
 use std::thread;
 use std::thread::{Promise, Threads};
 
-/// A bid of that many shares by the participant at a place: the number distinguishes it from its other ones.
+/// A bid of n shares by the participant at a place: the number distinguishes it from its other ones.
 fn bid_of(place: u8, shares: u32) -> Option<Change> {
     let bid = SideQuote::new(Price::new(100_000)?, Shares::new(shares)?);
     Some(Change::Quote {
@@ -193,7 +193,7 @@ fn fill<R: Wait>(rt: &R, sender: &mut Sender, change: &Change) -> u32
     2000
 }
 
-/// How many changes a lane takes that was opened for that many.
+/// How many changes a lane takes that was opened for n.
 fn room<R: Wait + Abort>(rt: &R, alloc: Global, capacity: usize) -> Option<u32> {
     if !(LEAST_CAPACITY..=MOST_CAPACITY).contains(&capacity) {
         return None;
@@ -299,7 +299,7 @@ fn send_1000<R: Wait>(rt: &R, mut sender: Sender, place: u8) -> Sender
     sender
 }
 
-/// Takes bids until there were that many. Each participant's come in the order of their shares.
+/// Takes bids until there were n. Each participant's come in the order of their shares.
 fn take_all<R: Wait + Abort>(rt: &R, mut taker: Taker, count: u32) -> Taker
     ensures lane { result.lane ≡ taker.lane }
     ensures senders { result.senders ≡ taker.senders }

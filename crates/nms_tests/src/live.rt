@@ -98,7 +98,7 @@ pub(crate) fn order_of(wanted: &Wanted) -> Option<Order> {
     )
 }
 
-/// Adds an order, if its desk is one of that many.
+/// Adds an order, if its desk is one of n.
 fn add_order<R: Abort>(rt: &R, orders: &mut Vec<DeskOrder>, desks: u8, wanted: &Wanted)
     requires { All (λ order. order.desk < desks) orders.old.items }
     ensures { All (λ order. order.desk < desks) orders.new.items }
@@ -110,7 +110,7 @@ fn add_order<R: Abort>(rt: &R, orders: &mut Vec<DeskOrder>, desks: u8, wanted: &
     }
 }
 
-/// The orders of a table, each of one of that many desks.
+/// The orders of a table, each of one of n desks.
 fn orders_of<R: Abort>(rt: &R, alloc: Global, desks: u8, table: &[Wanted]) -> Vec<DeskOrder>
     ensures { All (λ order. order.desk < desks) result.items }
 {

@@ -463,7 +463,7 @@ fn a_desk_settles_on_what_it_saw_and_was_told_of(rt: HostRuntime) -> Result<(), 
     Ok(())
 }
 
-/// Appends an offer to a tape of that many changes. A refused one leaves the tape and the view, and is appended once there is
+/// Appends an offer to a tape of n changes. A refused one leaves the tape and the view, and is appended once there is
 /// memory.
 fn append_again<R: Abort>(rt: &R, publisher: &mut Publisher, desk: &mut Desk, count: u64) {
     let mut told = append(rt, publisher, 0);
@@ -494,7 +494,7 @@ fn append_70<R: Abort>(rt: &R, publisher: &mut Publisher, desk: &mut Desk) {
     }
 }
 
-/// Looks at ABC that many times, and reports whether each look showed something and the versions never fell.
+/// Looks at ABC n times, and reports whether each look showed something and the versions never fell.
 fn never_falls(desk: &mut Desk, looks: u32) -> bool {
     let mut last = 0;
     for _ in 0..looks {
@@ -506,7 +506,7 @@ fn never_falls(desk: &mut Desk, looks: u32) -> bool {
     true
 }
 
-/// Publishes a change that many times.
+/// Publishes a change n times.
 fn publish_often<R: Wait + Abort>(rt: &R, publisher: &mut Publisher, times: u32)
     ensures { publisher.new.opening ≡ publisher.old.opening }
 {

@@ -18,7 +18,7 @@ use Rattle.nms_lines.specs.Text.{later_fields}
 abbrev pub refusal : ℕ → List ℕ → Record
 refusal number code = codes "ERR" ∷ decimal number ∷ code ∷ []
 
--- a change was taken, and the tape has that many
+-- a change was taken, and the tape has n
 abbrev pub taken_record : ℕ → Record
 taken_record version = codes "TAKEN" ∷ decimal version ∷ []
 

@@ -16,7 +16,7 @@ use std::io::Write;
 /// Writes how many changes a live run took, and for each order in order its answer on all of them: the desk, the
 /// order's number, and the plan with its certificate. One write, flushed.
 ///
-/// Only `WriteFault` leaves something written: a first part of that text.
+/// Only `WriteFault` leaves something written: a prefix of that text.
 pub fn write_live<W: Write>(
     alloc: Global,
     roster: &Roster,

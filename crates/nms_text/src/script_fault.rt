@@ -10,7 +10,7 @@ use thiserror::Error;
 pub enum ScriptFault {
     /// E1: the reader failed. The answers to the records read so far were written.
     ReadFault,
-    /// E2: the writer failed. A script wrote a first part of its answers, and nothing else; of a report something may be written.
+    /// E2: the writer failed. A script wrote a prefix of its answers, and nothing else; of a report something may be written.
     WriteFault,
     /// E3: there are more than 10,000,000 records. The answers to the first 10,000,000 were written.
     TooLong,

@@ -9,7 +9,7 @@ use std::io::Write;
 
 /// Writes a text at once, and flushes it. An empty one needs nothing.
 ///
-/// `WriteFault` is its only fault, and leaves a first part of the text written, and nothing else.
+/// `WriteFault` is its only fault, and leaves a prefix of the text written, and nothing else.
 pub fn tell<W: Write>(writer: &mut W, text: &[u8]) -> Result<(), ScriptFault>
     ensures written { OnOk result (Appends (W.contents writer.old) (W.contents writer.new) text.now) }
     ensures part { OnErr result (AppendsPart (W.contents writer.old) (W.contents writer.new) text.now) }

@@ -40,16 +40,16 @@ abbrev pub since_midnight : ℕ → ℕ
 since_midnight t =
     t / 10000000000000 * 3600000000000 + t / 100000000000 % 100 * 60000000000 + t / 1000000000 % 100 * 1000000000 + t % 1000000000
 
--- the time that many nanoseconds after midnight
+-- the time n nanoseconds after midnight
 abbrev pub clock_at : ℕ → ℕ
 clock_at n =
     n / 3600000000000 * 10000000000000 + n / 60000000000 % 60 * 100000000000 + n / 1000000000 % 60 * 1000000000 + n % 1000000000
 
--- the time that many nanoseconds before a time; midnight at the earliest
+-- the time n nanoseconds before a time; midnight at the earliest
 abbrev pub earlier_by : ℕ → ℕ → ℕ
 earlier_by nanoseconds t = clock_at (since_midnight t - nanoseconds)
 
--- the time that many nanoseconds after a time; the last nanosecond of the day at the latest
+-- the time n nanoseconds after a time; the last nanosecond of the day at the latest
 abbrev pub later_by : ℕ → ℕ → ℕ
 later_by nanoseconds t =
     clock_at (if nat_lt (since_midnight t + nanoseconds) 86400000000000 then since_midnight t + nanoseconds else 86399999999999)

@@ -69,7 +69,7 @@ impl TimeOfDay {
         hours * 3_600_000_000_000 + minutes * 60_000_000_000 + seconds * 1_000_000_000 + nanos
     }
 
-    /// The time that many nanoseconds before it, of the same day: midnight at the earliest.
+    /// The time n nanoseconds before it, of the same day: midnight at the earliest.
     pub fn earlier_by(self, nanoseconds: u64) -> Self
         ensures { result ≡ earlier_by nanoseconds self }
     {
@@ -81,7 +81,7 @@ impl TimeOfDay {
         }
     }
 
-    /// The time that many nanoseconds after it, of the same day: its last nanosecond at the latest.
+    /// The time n nanoseconds after it, of the same day: its last nanosecond at the latest.
     pub fn later_by(self, nanoseconds: u64) -> Self
         ensures { result ≡ later_by nanoseconds self }
     {
@@ -123,7 +123,7 @@ impl TimeOfDay {
 /// The nanoseconds of a day.
 const DAY: u64 = 86_400_000_000_000;
 
-/// The time that many nanoseconds after midnight.
+/// The time n nanoseconds after midnight.
 fn clock_at(nanoseconds: u64) -> TimeOfDay
     requires { nanoseconds < 86400000000000 }
     ensures { result ≡ clock_at nanoseconds }

@@ -59,7 +59,7 @@ result_stopped text_fault.WriteFault settings live text old new is part kept = r
   cut = part refl;
 }
 
--- a first part of one result is one of a result that follows from it
+-- a prefix of one result is one of a result that follows from it
 pub stops_more : (why : ToolFault) (P Q : Option (List ℕ) → Type 0) (old new : Option (List ℕ))
     → ((whole : Option (List ℕ)) → P whole → Q whole) → StopsRun P old new why → StopsRun Q old new why
 stops_more (tool.LiveText text_fault.WriteFault) P Q old new more stops = writing_more P Q old new more stops

@@ -9,7 +9,7 @@ use Rattle.nms_tool.specs.Statuses.{TellsFault}
 use Rattle.nms_tool.specs.declared.tool_fault.ToolFault.{ToolFault}
 use Rattle.nms_tool.specs.declared.tool_fault.ToolFault.TheVariants as tool
 
--- what a live run had written of its whole result when it failed: a first part if the writer failed, else nothing
+-- what a live run had written of its whole result when it failed: a prefix if the writer failed, else nothing
 abbrev pub StopsRun : (Option (List ℕ) → Type 0) → Option (List ℕ) → Option (List ℕ) → ToolFault → Type 0
 StopsRun Whole old new (tool.LiveText text_fault.WriteFault) = WritesPart Whole old new
 StopsRun Whole old new (tool.LiveText text_fault.NoMemory) = new ≡ old

@@ -28,7 +28,7 @@ abbrev pub fault_text : ToolFault → List ℕ
 fault_text (tool.Command (command.Words (words.Parser text help))) = string_bytes text
 fault_text fault = codes "nms_tool: " ++ (code_of fault ++ 10 ∷ [])
 
--- a fault of this status was reported: a first part of its text was written, and nothing else
+-- a fault of this status was reported: a prefix of its text was written, and nothing else
 pub record TellsFault (status : ℕ) (old new : Option (List ℕ)) : Type 0 where
   pub fault : ToolFault
   pub status_is : status_of fault ≡ status

@@ -20,7 +20,7 @@ use std::thread::Threads;
 /// Answers and help go to `answers`; the text of a parser's fault, or one line `nms_tool: CODE`, to `errors`. Status 0 says
 /// that the words' request was done; for a plan, that it is confirmed. Status 4 says that a plan was judged and is not
 /// confirmed. Any other says that it failed. Then `answers` got the answers to a script's first records; of any other request
-/// nothing or, if the writer failed, a first part.
+/// nothing or, if the writer failed, a prefix.
 pub fn run_tool<T, R: Read + Drop, W: Write, E: Write>(
     rt: &T,
     words: &[&str],
@@ -43,7 +43,7 @@ where
 }
 
 /// Reports a fault, and gives its exit status. If standard error takes less than the whole, the status stays. What it takes is
-/// a first part of the parser's text, or of the one line with the code, and nothing else.
+/// a prefix of the parser's text, or of the one line with the code, and nothing else.
 pub fn tell_fault<E: Write>(fault: &ToolFault, errors: &mut E) -> u8
     ensures status { result ≡ status_of fault.now }
     ensures told { AppendsPart (E.contents errors.old) (E.contents errors.new) (fault_text fault.now) }

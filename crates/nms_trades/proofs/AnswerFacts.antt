@@ -21,7 +21,7 @@ use Rattle.nms_trades.specs.declared.execution.Execution.{Execution}
 use Rattle.nms_trades.specs.declared.execution_file.Refusal.{Refusal}
 use Rattle.nms_trades.specs.declared.finding.Finding.{Finding}
 
--- of a whole text a first part was written, and the rest is still to be
+-- of a whole text a prefix was written, and the rest is still to be
 pub record Going (old now : Option (List ℕ)) (whole rest : List ℕ) : Type 0 where
   pub done : List ℕ
   pub written : Appends old now done
@@ -44,7 +44,7 @@ pub going_done : (old now : Option (List ℕ)) (whole rest : List ℕ) → Going
 going_done old now whole rest had none =
     subst (Appends old now) (sym (had.split ∙ ap (λ (t : List ℕ). had.done ++ t) none ∙ append-nil had.done)) had.written
 
--- a first part of a text is one of what the text begins
+-- a prefix of a text is one of what the text begins
 part_of_longer : (old new : Option (List ℕ)) (text more : List ℕ) → AppendsPart old new text → AppendsPart old new (text ++ more)
 part_of_longer old new text more cut = record {
   part = cut.part;
@@ -53,7 +53,7 @@ part_of_longer old new text more cut = record {
   written = cut.written;
 }
 
--- a first part of a piece more
+-- a prefix of a piece more
 pub going_cut : (old now new : Option (List ℕ)) (whole rest piece more : List ℕ) → Going old now whole rest → AppendsPart now new piece
     → rest ≡ piece ++ more → AppendsPart old new whole
 going_cut old now new whole rest piece more had cut split =

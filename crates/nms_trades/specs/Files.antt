@@ -48,7 +48,7 @@ abbrev pub ending_of : List Refusal → Ending
 ending_of [] = ending.Done
 ending_of (refusal ∷ rest) = ending.Refused
 
--- whether a fault may come after a first part of the answers: any other leaves nothing written
+-- whether a fault may come after a prefix of the answers: any other leaves nothing written
 abbrev pub is_begun : TradesFault → Bool
 is_begun (fault.Changes refused) = false
 is_begun (fault.Executions refused) = false

@@ -58,7 +58,7 @@ cost_of millionths shares [] = 0
 cost_of millionths shares (one ∷ rest) =
     difference one.0 millionths * min one.0.size shares + cost_of millionths (shares - one.0.size) rest
 
--- the sums of some quotations that an execution of that many shares traded through
+-- the sums of some quotations that an execution of n shares traded through
 abbrev pub sums_in : Execution → (shares : ℕ) → List Marked → Sums
 sums_in execution shares marked =
     let left = rows_left execution marked in

@@ -50,7 +50,7 @@ at_time clock sym None = Err fault.BadVersion
 at_time clock sym (Some t) =
     if clock.has_times then among clock (stretch_in clock.stretches.items sym) t (slice_get clock.rising.items sym) else Err fault.NoTimes
 
--- a version, if the file has that many changes
+-- a version, if the file has n changes
 abbrev pub version_below : ℕ → Option ℕ → Result When TradeFault
 version_below changes None = Err fault.BadVersion
 version_below changes (Some n) = if nat_lt changes n then Err fault.Beyond else Ok (untimed n)

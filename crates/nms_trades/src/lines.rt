@@ -25,7 +25,7 @@ use std::io::Write;
 /// Writes an answer to each record, in the order of their numbers: what is found of an execution, or that it is refused. The
 /// findings stand at the places of the executions; one without a finding has no answer.
 ///
-/// At its failure, which is `Show`, a first part of that was written. Nothing is flushed.
+/// At its failure, which is `Show`, a prefix of that was written. Nothing is flushed.
 pub fn write_answers<W: Write>(
     alloc: Global,
     roster: &Roster,

@@ -99,7 +99,7 @@ pub fn sums_of(execution: &Execution, finding: &Finding) -> Sums
     sums
 }
 
-/// How much an execution traded through one row, which takes at most that many shares. Self-help may take the row out.
+/// How much an execution traded through one row, which takes at most n shares. Self-help may take the row out.
 pub(crate) fn sums_of_row(execution: &Execution, row: &Row, left: u32, flickers: bool) -> Sums
     ensures sums { result ≡ sums_in execution.now left ((row.now, flickers) ∷ []) }
     ensures cost { IsCost result }

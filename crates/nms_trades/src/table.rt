@@ -415,7 +415,7 @@ fn write_symbols(roster: &Roster, counts: &[Count], out: &mut SafeText) -> Resul
     write_shown(roster, counts, &order, shown, out)
 }
 
-/// Writes the counts of the first symbols in an order of their places, at most that many.
+/// Writes the counts of the first symbols in an order of their places, at most n.
 fn write_shown(
     roster: &Roster,
     counts: &[Count],

@@ -145,7 +145,7 @@ fn judge_records<W: Write>(
 /// Writes what is found of executions, which stands at their places, and which records are refused: a line or more for each, or
 /// the counts and sums of all.
 ///
-/// `TooLong` comes only of sums that no number holds, and leaves nothing written. At a failure of the output a first part was
+/// `TooLong` comes only of sums that no number holds, and leaves nothing written. At a failure of the output a prefix was
 /// written. Nothing is flushed.
 pub fn write_findings<W: Write>(
     alloc: Global,

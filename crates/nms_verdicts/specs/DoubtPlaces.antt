@@ -27,7 +27,7 @@ use Rattle.nms_verdicts.specs.declared.plan_places.doubt_places.DoubtPlace.TheVa
 abbrev pub IsCutPlace : List Cut → CutPlace → Type 0
 IsCutPlace cuts at = slice_get cuts at.number ≡ Some at.cut
 
--- the sums at a cutoff, if that many shares can be filled
+-- the sums at a cutoff, if n shares can be filled
 pub record AreSums (rows : List Usable) (all : ℕ) (cutoff : ℤ) (sums : CutSums) : Type 0 where
   pub most : sums.most ≡ all
   pub swept : sums.swept ≡ swept cutoff rows
@@ -102,7 +102,7 @@ IsBoundPlace side rows most cost cuts number _ = ⊥
 
 -- ---- all of them
 
--- a doubt of the cuts, if that many shares can be filled and the plan costs that much
+-- a doubt of the cuts, if n shares can be filled and the plan costs that much
 abbrev pub IsCutsPlace : OrderSide → List Usable → ℕ → ℤ → List Cut → Doubt → DoubtPlace → Type 0
 IsCutsPlace side rows most cost cuts doubt.CutMissing at = IsMissingPlace rows cuts at
 IsCutsPlace side rows most cost cuts doubt.CutExtra at = IsExtraPlace side rows cuts at

@@ -240,7 +240,7 @@ fn counted(counts: Counts, outcome: Outcome) -> Counts
     counts
 }
 
-/// How a request ends that judged that many plans.
+/// How a request ends that judged n plans.
 fn ending_of(counts: Counts) -> Ending
     ensures { result ≡ ending_by counts }
 {

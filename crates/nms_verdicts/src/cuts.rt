@@ -15,7 +15,7 @@ use std::io::Write;
 /// The most that a marginal may be, in nanodollars, and the least with a minus.
 const MOST_MARGINAL: i128 = 1_000_000_000_000_000_000;
 
-/// Reports what each cut says, if that many shares can be filled.
+/// Reports what each cut says, if n shares can be filled.
 pub(crate) fn tell_cuts<W: Write>(
     alloc: Global,
     answers: &mut W,

@@ -19,7 +19,7 @@ pub record IsKept (words : List Cell) (log : Batches) : Type 0 where
 abbrev pub count_of : Book → Named
 count_of book = record { tracked = true; key = 0; book = book }
 
--- the key of the cell after that many batches
+-- the key of the cell after n batches
 abbrev pub key_of : ℕ → ℕ
 key_of batches = suc (suc batches)
 

@@ -11,7 +11,7 @@ abbrev pub recalled : Option (Snapshot (List Batches)) → List Batches
 recalled None = []
 recalled (Some earlier) = earlier.value
 
--- all that is remembered begins the longest, which has that many changes
+-- all that is remembered begins the longest, which has n changes
 pub record Remembers (longest : Batches) (count : ℕ) (memory : List Batches) : Type 0 where
   pub begin : AllByRecursion (λ earlier. IsPrefix earlier longest) memory
   pub counted : count ≡ length (changes longest)

@@ -113,7 +113,7 @@ impl Publisher {
         self.published = self.tape.len() as u64;
     }
 
-    /// Makes room for that many changes more, within the tape's limit and the memory there is: so none of them waits
+    /// Makes room for n changes more, within the tape's limit and the memory there is: so none of them waits
     /// until the tape has moved. Out of memory, the tape grows as it is appended to.
     pub fn make_room(&mut self, changes: usize)
         ensures { self.new ≡ self.old }

@@ -1,11 +1,11 @@
 //! The page of a file of executions: the days of their symbols. How the call ends: `specs/Pages`.
-ghost use Rattle.std.specs.Prelude.{◌≡◌, ◌<◌, ◌≤◌, All, IfErr, IfOk, None, OnOk, false, is_some, length, option_copied, true};
+ghost use Rattle.std.specs.Prelude.{◌≡◌, ◌<◌, ◌≤◌, All, IfErr, IfOk, None, OnOk, false, length, option_copied, true};
 ghost use Rattle.std.specs.Io.KnownBytes.{Appends};
 ghost use Rattle.nms_quote.specs.Roster.{holds, sizes_of};
 ghost use Rattle.nms_quote.specs.declared.TheConstants.{MOST_CHANGES};
 ghost use Rattle.nms_trades.specs.Answers.{answers_text};
 ghost use Rattle.nms_trades.specs.Files.{IsJudgedFile, is_csv};
-ghost use Rattle.nms_drawing.specs.Drawn.{IsTradesFilePage, IsTradesPage};
+ghost use Rattle.nms_drawing.specs.Drawn.{IsTradesFilePage, IsTradesPage, times_in};
 ghost use Rattle.nms_drawing.specs.Pages.{IsOutputFault, IsPageFault, is_begun};
 
 use super::judged::{Judged, judge_source};
@@ -52,7 +52,7 @@ pub fn write_page<C: Read + Drop, E: Read + Drop, W: Write, P: Write>(
 ) -> Result<Ending, PageFault>
     ensures judged { IfOk result (IsJudgedFile setup.now (C.remaining changes) (E.remaining executions) asked.now.form asked.now.layout
         (W.contents answers.old) (W.contents answers.new)) }
-    ensures page { OnOk result (IsTradesFilePage setup.now (C.remaining changes) (E.remaining executions) (is_some timing.entry) asked.now (P.contents page.old)
+    ensures page { OnOk result (IsTradesFilePage setup.now (C.remaining changes) (E.remaining executions) (option_copied timing.entry) asked.now (P.contents page.old)
         (P.contents page.new)) }
     ensures refused { IfErr result (IsPageFault setup.now (C.remaining changes) (E.remaining executions) (option_copied timing.entry)) }
     ensures unwritten { IfErr result (λ fault. is_begun fault ≡ false
@@ -96,7 +96,7 @@ fn write_both<W: Write, P: Write>(
     requires few { length changes.now ≤ MOST_CHANGES }
     requires places { length judged.now.findings.items ≡ length judged.now.records.executions.items }
     requires symbols { All (λ execution. execution.sym < length roster.now.syms) judged.now.records.executions.items }
-    ensures page { OnOk result (IsTradesPage roster.now changes.now (is_some timing.entry) asked.now judged.now.records.executions.items judged.now.findings.items
+    ensures page { OnOk result (IsTradesPage roster.now changes.now (option_copied timing.entry) asked.now judged.now.records.executions.items judged.now.findings.items
         (P.contents page.old) (P.contents page.new)) }
     ensures written { is_csv asked.now.layout asked.now.form ≡ true → OnOk result (Appends (W.contents answers.old) (W.contents answers.new)
         (answers_text roster.now judged.now.records.executions.items judged.now.records.refused.items judged.now.findings.items)) }
@@ -130,7 +130,7 @@ fn write_judged<P: Write>(
     requires few { length changes.now ≤ MOST_CHANGES }
     requires places { length judged.now.findings.items ≡ length judged.now.records.executions.items }
     requires symbols { All (λ execution. execution.sym < length roster.now.syms) judged.now.records.executions.items }
-    ensures page { OnOk result (IsTradesPage roster.now changes.now (is_some timing.entry) asked.now judged.now.records.executions.items judged.now.findings.items
+    ensures page { OnOk result (IsTradesPage roster.now changes.now (option_copied timing.entry) asked.now judged.now.records.executions.items judged.now.findings.items
         (P.contents page.old) (P.contents page.new)) }
     ensures refused { IfErr result IsOutputFault }
 {
@@ -165,7 +165,9 @@ fn write_judged<P: Write>(
 }
 
 /// The times of the versions, if there are any.
-fn times_of<'a>(timing: Option<&Timing<'a>>) -> Option<&'a Times> {
+fn times_of<'a>(timing: Option<&Timing<'a>>) -> Option<&'a Times>
+    ensures { option_copied result ≡ times_in (option_copied timing.entry) }
+{
     match timing {
         Some(timing) => Some(timing.times),
         None => None,

@@ -38,7 +38,7 @@ pub(crate) struct Appended {
     pub(crate) is_whole: bool,
 }
 
-/// Appends that many changes and publishes them, half of them at once.
+/// Appends n changes and publishes them, half of them at once.
 pub(crate) fn append_all<R: Wait>(
     rt: &R,
     alloc: Global,

@@ -7,7 +7,7 @@ use std::alloc::Global;
 use std::cell::Cell;
 use std::test::Fail;
 
-/// The code of what ends the text of a run of 4 changes and no order if that many writes and flushes succeed, `""` for none,
+/// The code of what ends the text of a run of 4 changes and no order if n writes and flushes succeed, `""` for none,
 /// and how many bytes are written by then.
 fn told(alloc: Global, setup: &Setup, writes: usize, flushes: usize) -> (&'static str, usize) {
     let out = &Cell::new(0);

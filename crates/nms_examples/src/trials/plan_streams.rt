@@ -20,7 +20,7 @@ pub(super) fn a_failed_write_of_a_plan_is_told<T: AllocGlobal>(
     same(told, Err(PlanTextFault::WriteFault))
 }
 
-/// The code of what ends a plan on no changes if that many writes and flushes succeed, `""` for none, and how many bytes are
+/// The code of what ends a plan on no changes if n writes and flushes succeed, `""` for none, and how many bytes are
 /// written by then.
 fn planned(
     alloc: Global,

@@ -7,7 +7,7 @@ use std::alloc::Global;
 use std::cell::Cell;
 use std::test::Fail;
 
-/// The code of what ends a report if that many writes and flushes succeed, `""` for none, and how many bytes are written by
+/// The code of what ends a report if n writes and flushes succeed, `""` for none, and how many bytes are written by
 /// then.
 fn reported(
     alloc: Global,

@@ -74,7 +74,7 @@ pub(super) fn each_answer_is_one_write_and_out_before_the_next_read<T: AllocGlob
     same(asked(rt.alloc(), setup)?, (8, 4, 4, 61))
 }
 
-/// What ends a script if that many writes and flushes succeed, and how many bytes are written by then.
+/// What ends a script if n writes and flushes succeed, and how many bytes are written by then.
 fn ended(
     alloc: Global,
     setup: &Setup,

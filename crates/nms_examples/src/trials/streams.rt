@@ -2,7 +2,7 @@ use std::cell::Cell;
 use std::io;
 use std::io::{ErrorKind, Read, Write};
 
-/// Gives a text that many times, then fails once if asked to, and then gives what follows.
+/// Gives a text n times, then fails once if asked to, and then gives what follows.
 #[derive(Drop)]
 pub(super) struct Source<'a> {
     pub(super) text: &'a [u8],
@@ -28,7 +28,7 @@ impl<'a> Read for Source<'a> {
     }
 }
 
-/// Takes that many more writes and flushes, and fails from then on. Reports how many bytes are out: written, and flushed since.
+/// Takes n more writes and flushes, and fails from then on. Reports how many bytes are out: written, and flushed since.
 #[derive(Drop)]
 pub(super) struct Pipe<'a> {
     pub(super) bytes: usize,

@@ -13,7 +13,7 @@ pub(crate) struct FieldPlace {
 }
 
 impl FieldPlace {
-    /// The field of that name after that many others.
+    /// The field of that name after n others.
     pub(crate) fn at(place: usize, name: FieldName) -> Self
         ensures { result ≡ record { place = place; name = name } }
     {

@@ -68,7 +68,7 @@ fn name_expected(array: SetupArray) -> &'static str {
     }
 }
 
-/// The letter of the last of that many feeds.
+/// The letter of the last of n feeds.
 fn letter_of(feeds: u8) -> &'static str {
     match feeds {
         0 | 1 => "A",

@@ -29,7 +29,7 @@ const MOST_TOLD: usize = 100;
 ///
 /// If the text is no TOML document, its one fault is C1, at the place where the parser stopped.
 ///
-/// What is written is safe to show on a terminal; at an error it is a first part of such a text.
+/// What is written is safe to show on a terminal; at an error it is a prefix of such a text.
 #[tactic(auto, using(nms_show::proofs::Offered::no_part_added))]
 pub fn explain_setup<W: Write>(
     alloc: Global,

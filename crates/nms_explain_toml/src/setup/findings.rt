@@ -29,7 +29,7 @@ pub(crate) fn faults_at(document: &Table, finding: &Finding) -> usize {
     }
 }
 
-/// Reports a finding, up to that many of its faults.
+/// Reports a finding, up to n of its faults.
 pub(crate) fn tell_finding(
     told: Report<'_>,
     choices: Choices,
@@ -168,7 +168,7 @@ fn counted_at(fault: SetupFault, value: &Value) -> Option<usize> {
     }
 }
 
-/// Reports each key that may not stand in a table, up to that many.
+/// Reports each key that may not stand in a table, up to n.
 fn tell_others(
     told: Report<'_>,
     document: &Table,

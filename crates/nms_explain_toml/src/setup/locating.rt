@@ -312,7 +312,7 @@ impl Reached {
     }
 }
 
-/// Whether one more than a place is that many.
+/// Whether one more than a place is n.
 fn is_next(place: usize, count: usize) -> bool {
     count > 0 && count - 1 == place
 }

@@ -17,7 +17,7 @@ use std::io::{Read, Write};
 
 /// Writes the changes that a script takes as a file of changes: a record each, in order. The script is read first.
 ///
-/// `ReadFault` and `TooLong` leave nothing written. `NoMemory` and `WriteFault` leave a first part of the text, and nothing
+/// `ReadFault` and `TooLong` leave nothing written. `NoMemory` and `WriteFault` leave a prefix of the text, and nothing
 /// else. The writer is not flushed.
 pub fn write_tape<R: Read + Drop, W: Write>(
     alloc: Global,

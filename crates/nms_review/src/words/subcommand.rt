@@ -374,7 +374,7 @@ static TRADES: [Word; 11] = [
     BESTS,
     Word {
         name: "window",
-        help: "Judges each execution on all versions within that many nanoseconds of its time, with --times",
+        help: "Judges each execution on all versions within NS nanoseconds of its time, with --times",
         form: WordForm::Valued("NS"),
     },
     Word {

@@ -31,7 +31,7 @@ fn drawn_orders<R: Abort>(rt: &R, alloc: Global, chance: &mut Chance, desks: u32
     table
 }
 
-/// Lets a desk's looks wait until that many changes were sent, more for each look, or all.
+/// Lets a desk's looks wait until n changes were sent, more for each look, or all.
 #[derive(Drop)]
 struct Paced {
     sent: AtomicU64,
@@ -40,7 +40,7 @@ struct Paced {
 }
 
 impl Paced {
-    /// Waits for that many changes, and reports whether they were sent.
+    /// Waits for n changes, and reports whether they were sent.
     fn has_sent(&self, count: u64) -> bool {
         for _ in 0..1000u32 {
             if count <= self.sent.load(Ordering::SeqCst) {

@@ -311,7 +311,7 @@ fn drawn_feed<R: Abort>(rt: &R, alloc: Global, chance: &mut Chance, feed: Feed, 
     sent
 }
 
-/// What each of that many feeds sends.
+/// What each of n feeds sends.
 pub(crate) fn drawn_feeds<R: Abort>(
     rt: &R,
     alloc: Global,

@@ -124,7 +124,7 @@ fn of_the_feeds_that_are_refused_the_first_is_named(rt: HostRuntime) {
     }
 }
 
-/// The text of a feed of that many changes of one participant.
+/// The text of a feed of n changes of one participant.
 fn changes_of<R: Abort>(rt: &R, alloc: Global, part: &str, count: u32) -> Vec<u8> {
     let mut text = Vec::new(alloc);
     for number in 0..count {
@@ -169,7 +169,7 @@ fn orders_of_all<R: Abort>(rt: &R, alloc: Global) -> Vec<Wanted> {
     table
 }
 
-/// The texts of eight feeds of that many changes each.
+/// The texts of eight feeds of n changes each.
 fn texts_of_all<R: Abort>(rt: &R, alloc: Global, each: u32) -> Vec<Vec<u8>> {
     let mut texts = Vec::new(alloc);
     for name in ["N", "Y", "A", "C", "J", "M", "T", "V"] {
@@ -179,7 +179,7 @@ fn texts_of_all<R: Abort>(rt: &R, alloc: Global, each: u32) -> Vec<Vec<u8>> {
     texts
 }
 
-/// A run of eight feeds and 16 desks, in which each feed sends that many changes.
+/// A run of eight feeds and 16 desks, in which each feed sends n changes.
 fn run_all<R: Threads + Wait + Abort + Sync>(rt: &R, alloc: Global, each: u32) -> Live {
     let limits = Limits {
         tape: 100_000,

@@ -125,7 +125,7 @@ fn are_all_on(answers: &[Answer], all: u64) -> bool {
     true
 }
 
-/// Applies that many changes of a tape, from the first.
+/// Applies n changes of a tape, from the first.
 fn apply_first(boards: &mut Boards, tape: &[Change], count: u64) {
     for (change, _) in tape.iter().zip(0..count) {
         if boards.takes(change) {

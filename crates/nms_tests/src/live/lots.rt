@@ -71,7 +71,7 @@ fn taken(answer: &Answer) -> (u32, u32) {
     (shares_to(legs, 0), shares_to(legs, 1))
 }
 
-/// Compares each look with the expected view after that many changes, and the closing answers with the last of them.
+/// Compares each look with the expected view after n changes, and the closing answers with the last of them.
 fn compare_lots<R: Abort>(rt: &R, live: &Live) {
     let due = [(200, 0), (200, 200), (280, 240), (0, 0), (0, 0), (290, 250)];
     for (answer, (version, shares)) in live.answers.iter().zip((1..7u64).zip(due)) {

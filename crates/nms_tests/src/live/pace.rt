@@ -9,7 +9,7 @@ use std::sync::Wait;
 use std::sync::atomic::{AtomicBool, Ordering};
 use std::thread::Threads;
 
-/// Holds the taker at its first publishing, with one change taken, until feed A has sent that many more.
+/// Holds the taker at its first publishing, with one change taken, until feed A has sent n more.
 #[derive(Drop)]
 struct Held {
     more: u64,
@@ -45,7 +45,7 @@ impl Gate for Held {
     }
 }
 
-/// A change of one participant, and that many more.
+/// A change of one participant, and n more.
 fn changes<R: Abort>(rt: &R, alloc: Global, more: u64) -> Vec<u8> {
     let mut text = Vec::new(alloc);
     for _ in 0..=more {

@@ -49,7 +49,7 @@ fn follow(side: &mut Known, change: &Change, order: &Order, who: Part) {
     }
 }
 
-/// Whether a leg takes only whole lots of what its participant quotes after that many changes, at its price.
+/// Whether a leg takes only whole lots of what its participant quotes after n changes, at its price.
 fn is_shown(tape: &[Change], count: u64, order: &Order, leg: &Leg) -> bool {
     let mut side = Known {
         lot: 100,

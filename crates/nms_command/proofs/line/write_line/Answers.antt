@@ -8,7 +8,7 @@ use Rattle.nms_lines.proofs.Offered.{part_more, whole_kept}
 use Rattle.nms_command.proofs.PartFacts.{at_failure, longer, same_all, same_part}
 use Rattle.nms_command.proofs.line.write_line.Goals as goal
 
--- the clause `part`: what was written before the piece that failed, and a first part of that
+-- the clause `part`: what was written before the piece that failed, and a prefix of that
 pub returns-in_err-write_text-clause-part : goal.returns-in_err-write_text-clause-part
 returns-in_err-write_text-clause-part g c =
     let old : Option (List ℕ) = g.W.Write.contents c.args.writer.now in

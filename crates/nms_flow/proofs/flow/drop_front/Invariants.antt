@@ -3,7 +3,7 @@ use Rattle.std.proofs.Common.{◌≡◌, drop}
 use Rattle.std.specs.VecDeque.{deque_capacity}
 use Rattle.nms_flow.proofs.flow.drop_front.Given as goal
 
--- that many are gone
+-- n are gone
 abbrev pub invariant-loop : goal.invariant-loop
 invariant-loop l = record {
   items : l.queue.items ≡ drop l.counter l.fn.queue.items;

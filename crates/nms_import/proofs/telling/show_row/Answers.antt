@@ -1,4 +1,4 @@
--- `show_row`: the texts of the line are printable, and what the writer took of it is a first part.
+-- `show_row`: the texts of the line are printable, and what the writer took of it is a prefix.
 use Rattle.std.proofs.Common.{refl}
 use Rattle.nms_import.proofs.ShowFacts.{shown_part}
 use Rattle.nms_import.proofs.telling.show_row.Goals as goal

@@ -3,7 +3,7 @@ use Rattle.std.proofs.Common.{◌≡◌, ◌∷◌, [], drop, replicate}
 use Rattle.nms_versions.specs.Rule.{sizes_known}
 use Rattle.nms_versions.proofs.opening.make_desks.Given as goal
 
--- that many desks were made
+-- n desks were made
 abbrev pub invariant-loop : goal.invariant-loop
 invariant-loop l = record {
   desks : l.desks.items ≡ replicate l.counter

@@ -1,4 +1,4 @@
--- `tell`: what the writer took of the line is a first part of a safe text.
+-- `tell`: what the writer took of the line is a prefix of a safe text.
 use Rattle.nms_show.specs.Safe.{IsSafe, nothing}
 use Rattle.nms_show.proofs.Offered.{adds_no_part}
 use Rattle.nms_import.proofs.telling.Told.tell.Goals as goal

@@ -1,4 +1,4 @@
--- `tell_fall`: what the writer took of the line is a first part of a safe text.
+-- `tell_fall`: what the writer took of the line is a prefix of a safe text.
 use Rattle.std.proofs.Common.{refl}
 use Rattle.nms_import.proofs.telling.Told.tell_fall.Goals as goal
 

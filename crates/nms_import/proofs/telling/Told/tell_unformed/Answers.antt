@@ -1,4 +1,4 @@
--- `tell_unformed`: what the writer took of the line is a first part of a safe text.
+-- `tell_unformed`: what the writer took of the line is a prefix of a safe text.
 use Rattle.std.proofs.Common.{refl}
 use Rattle.nms_show.specs.Safe.{IsSafe, nothing}
 use Rattle.nms_show.proofs.Offered.{adds_no_part}
