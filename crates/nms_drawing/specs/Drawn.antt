@@ -153,7 +153,8 @@ times_in None = None
 times_in (Some timing) = Some timing.times.now
 
 -- a page of the executions of a file shows the whole tape, with times if versions are found by them
-pub record IsOfAll (symbols : ℕ) (tape : Tape) (executions : List Execution) (timing : Option Timing) (asked : Asked) (window : Window) : Type 0 where
+pub record IsOfAll (symbols : ℕ) (tape : Tape) (executions : List Execution) (timing : Option Timing) (asked : Asked)
+    (window : Window) : Type 0 where
   pub days : window.days.now ≡ days_among symbols (has_day executions)
   pub times : option_copied window.times ≡ times_in timing
   pub opening : window.opening ≡ 0

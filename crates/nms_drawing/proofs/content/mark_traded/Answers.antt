@@ -1,5 +1,6 @@
 -- `mark_traded`: each turn marks the symbol of its execution, and at the end the first one if there was none.
-use Rattle.std.proofs.Common.{◌≡◌, ◌<◌, ◌==◌, ◌&&◌, ◌||◌, ℕ, Bool, List, arith, ap, false, get_or, length, map, not, refl, subst, sym, take, true, ◌∙◌, ◌+◌}
+use Rattle.std.proofs.Common.{◌≡◌, ◌<◌, ◌==◌, ◌&&◌, ◌||◌, ℕ, Bool, List, arith, ap, false, get_or, length, map, not, refl}
+use Rattle.std.proofs.Common.{subst, sym, take, true, ◌∙◌, ◌+◌}
 use Rattle.std.specs.List.{range_with_len}
 use Rattle.std.proofs.lemmas.Grind.{common_steps}
 use Rattle.std.proofs.lemmas.List.{length-set, take_all}

@@ -9,12 +9,14 @@ loop-place-preserved c =
     let marks = c.args.marks.now in
     let place = c.loop-place.place in
     let before = c.loop-place.invariant in
+    let days = c.loop-place.traded.days.items in
+    let symbols = c.loop-place.traded.symbols.items in
     let at : c.unwrap.result ≡ place = grind (arith, common_steps) in
     record {
       days = c.in_ok-add_day.ensures.days
-          ∙ ap (λ (k : ℕ). c.loop-place.traded.days.items ++ cond (get_or marks k false) (Some (length c.loop-place.traded.symbols.items)) None ∷ []) at
-          ∙ next_day place (λ s. get_or marks s false) c.loop-place.traded.days.items c.loop-place.traded.symbols.items before.days before.symbols;
+          ∙ ap (λ (k : ℕ). days ++ cond (get_or marks k false) (Some (length symbols)) None ∷ []) at
+          ∙ next_day place (λ s. get_or marks s false) days symbols before.days before.symbols;
       symbols = c.in_ok-add_day.ensures.symbols
-          ∙ ap (λ (k : ℕ). c.loop-place.traded.symbols.items ++ cond (get_or marks k false) (k ∷ []) []) at
-          ∙ next_symbol place (λ s. get_or marks s false) c.loop-place.traded.symbols.items before.symbols;
+          ∙ ap (λ (k : ℕ). symbols ++ cond (get_or marks k false) (k ∷ []) []) at
+          ∙ next_symbol place (λ s. get_or marks s false) symbols before.symbols;
     }
