@@ -21,19 +21,53 @@ pub(crate) fn refuse_map<T: Host>(
     fault: &MapFault<'_>,
 ) -> Result<Ending, Fault> {
     let code = code_of(fault);
-    let others;
-    let (line, table, key, expected) = match fault {
-        MapFault::NotToml { line } => (Item::Number(*line), "", "", ""),
+    match fault {
+        MapFault::NotToml { line } => show_line(
+            call,
+            &[
+                Item::Text("nms_review: "),
+                Item::Bytes(file.name.as_bytes()),
+                Item::Text(": "),
+                Item::Text(code.text()),
+                Item::Text(": "),
+                Item::Text(code.sentence()),
+                Item::Text(": line "),
+                Item::Number(*line),
+            ],
+        )?,
         MapFault::Refused(finding) if finding.wrong == Wrong::Unknown => {
-            others = keys_text(call.alloc(), kind, finding.table, finding.key).map_err(
+            let others = keys_text(call.alloc(), kind, finding.table, finding.key).map_err(
                 |_| Fault::no_memory(),
             )?;
-            (Item::Absent, finding.table, finding.key, others.as_str())
+            show_wrong(call, file, code, finding.table, finding.key, &others)?;
         }
-        MapFault::Refused(finding) => (Item::Absent, finding.table, finding.key, finding.expected),
-        MapFault::NoColumn { key, expected } => (Item::Absent, "column", *key, *expected),
+        MapFault::Refused(finding) => {
+            show_wrong(
+                call,
+                file,
+                code,
+                finding.table,
+                finding.key,
+                finding.expected,
+            )?;
+        }
+        MapFault::NoColumn { key, expected } => {
+            show_wrong(call, file, code, "column", key, expected)?;
+        }
         MapFault::NoMemory => return Err(Fault::of(code, About::Nothing)),
-    };
+    }
+    Ok(Ending::SetupRefused)
+}
+
+/// The line of what is wrong in a mapping.
+fn show_wrong<'x, T: Host>(
+    call: &Call<'_, T>,
+    file: Path<'x>,
+    code: Code,
+    table: &'x str,
+    key: &'x str,
+    expected: &'x str,
+) -> Result<(), Fault> {
     let items = [
         Item::Text("nms_review: "),
         Item::Bytes(file.name.as_bytes()),
@@ -41,16 +75,14 @@ pub(crate) fn refuse_map<T: Host>(
         Item::Text(code.text()),
         Item::Text(": "),
         Item::Text(code.sentence()),
-        Item::Text(if key.is_empty() { ": line " } else { ": [" }),
-        line,
+        Item::Text(": ["),
         Item::Text(table),
-        Item::Text(if key.is_empty() { "" } else { "] " }),
+        Item::Text("] "),
         Item::Bytes(key.as_bytes()),
-        Item::Text(if key.is_empty() { "" } else { ": expected " }),
+        Item::Text(": expected "),
         Item::Bytes(expected.as_bytes()),
     ];
-    show_line(call, &items)?;
-    Ok(Ending::SetupRefused)
+    show_line(call, &items)
 }
 
 /// Reports a file without the columns that its mapping names, and those that its first line has.

@@ -27,7 +27,7 @@ const MOST_TOLD: usize = 100;
 /// that is not known is that of the key that was meant. A text that is no TOML document has one fault, M1, at the place where the
 /// parser stopped.
 ///
-/// Errors: `WriteFault` if `answers` refuses, `NoMemory` if out of memory. A first part of the text may have been written. What is
+/// Errors: `WriteFault` if `answers` refuses, `NoMemory` if out of memory. A prefix of the text may have been written. What is
 /// written is safe to show on a terminal.
 pub fn explain_map<W: Write>(
     alloc: Global,

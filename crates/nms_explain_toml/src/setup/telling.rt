@@ -152,17 +152,14 @@ pub(crate) fn tell_summary(
     out: &mut SafeText,
 ) -> Result<(), AllocError> {
     let file = Item::Bytes(file.as_bytes());
-    let (faults, told) = (
-        Item::Number(summary.faults as u64),
-        Item::Number(summary.told as u64),
-    );
+    let faults = Item::Number(summary.faults as u64);
     let code = code_item(summary.least);
     if out.is_json() {
         return out.object(&[
             ("what", Item::Text("summary")),
             ("file", file),
             ("faults", faults),
-            ("told", told),
+            ("told", Item::Number(summary.told as u64)),
             ("code", code),
         ]);
     }
@@ -178,7 +175,7 @@ pub(crate) fn tell_summary(
     }
     out.line(&[
         Item::Text("the first "),
-        told,
+        Item::Number(summary.told as u64),
         Item::Text(" faults are reported, the others counted"),
     ])
 }
