@@ -5,10 +5,10 @@ use Rattle.std.specs.Prelude.{IfOk, length, not}
 use Rattle.nms_quote.specs.Roster.{Listing}
 use Rattle.nms_fees.specs.Settings.{Settings}
 use Rattle.nms_lines.specs.Faults as line_faults
-use Rattle.nms_lines.specs.Faults.{◌>>=◌, refuse_if}
-use Rattle.nms_lines.specs.Fields.{desk_below, flag_in, price_in, self_help_in, shares_in, side_in, symbol_in}
+use Rattle.nms_lines.specs.Faults.{◌>>=◌, at, of_record, refuse_if, unplaced}
+use Rattle.nms_lines.specs.Fields.{desk_at, flag_in, price_at, self_help_in, shares_at, side_at, symbol_at}
 use Rattle.nms_lines.specs.Layout.{Record, field, is_count, kind_named}
-use Rattle.nms_lines.specs.Lines.{best_reading, kind_reading, sweep_reading, through_reading}
+use Rattle.nms_lines.specs.Lines.{best_reading, kind_reading, placed_reading, sweep_reading, through_reading}
 use Rattle.nms_lines.specs.Sources.{brought, desks_of}
 use Rattle.nms_lines.specs.Text.{text_of}
 use Rattle.nms_lines.specs.declared.line.Kind.{Kind}
@@ -18,6 +18,7 @@ use Rattle.nms_lines.specs.declared.line.Reading.{Reading}
 use Rattle.nms_lines.specs.declared.line.Reading.TheVariants as source
 use Rattle.nms_lines.specs.declared.line_fault.LineFault.{LineFault}
 use Rattle.nms_lines.specs.declared.line_fault.LineFault.TheVariants as fault
+use Rattle.nms_lines.specs.declared.line_fault.PlacedFault.{PlacedFault}
 use Rattle.nms_scripts.specs.Script.{script_reading}
 use Rattle.nms_text.specs.Answers.{refusal}
 use Rattle.nms_versions.specs.Taped.{Knowing}
@@ -26,39 +27,44 @@ use Rattle.nms_answers.specs.Told.{AppendsOn}
 
 -- ---- a request that was read asks for a look
 
-bound : {A B : Type 0} (read : Result A LineFault) (then : A → Result B LineFault) (x : B) → (read >>= then) ≡ Ok x
+bound : {A B : Type 0} (read : Result A PlacedFault) (then : A → Result B PlacedFault) (x : B) → (read >>= then) ≡ Ok x
     → (a : A) × (read ≡ Ok a) × (then a ≡ Ok x)
 bound (Ok a) then x is = (a, refl, is)
 bound (Err why) then x is = absurd (cc)
 
-looks_like : (one other : Line) → (let r : Result Line LineFault = Ok one in r) ≡ Ok other → is_look one ≡ true → is_look other ≡ true
+-- what is read is read with any place of a fault
+read_so : {A : Type 0} (read : Result A PlacedFault) (x : A) → unplaced read ≡ Ok x → read ≡ Ok x
+read_so (Ok a) x is = cc
+read_so (Err placed) x is = absurd (cc)
+
+looks_like : (one other : Line) → (let r : Result Line PlacedFault = Ok one in r) ≡ Ok other → is_look one ≡ true → is_look other ≡ true
 looks_like one other same look = let is : one ≡ other = cc in subst (λ (l : Line). is_look l ≡ true) is look
 
 best_looks : (roster : Listing) (from : Reading) (fields : Record) (said : Line) → best_reading roster from fields ≡ Ok said
     → is_look said ≡ true
 best_looks roster from fields said is =
-    let symbol = bound (symbol_in roster (field fields 2)) _ said is in
-    let desk = bound (desk_below (desks_of from) (field fields 1)) _ said symbol.2 in
+    let symbol = bound (symbol_at roster fields 2) _ said is in
+    let desk = bound (desk_at (desks_of from) fields 1) _ said symbol.2 in
     looks_like _ said desk.2 refl
 
 through_looks : (roster : Listing) (from : Reading) (fields : Record) (said : Line) → through_reading roster from fields ≡ Ok said
     → is_look said ≡ true
 through_looks roster from fields said is =
-    let symbol = bound (symbol_in roster (field fields 2)) _ said is in
-    let price = bound (price_in (field fields 3)) _ said symbol.2 in
-    let desk = bound (desk_below (desks_of from) (field fields 1)) _ said price.2 in
+    let symbol = bound (symbol_at roster fields 2) _ said is in
+    let price = bound (price_at fields 3) _ said symbol.2 in
+    let desk = bound (desk_at (desks_of from) fields 1) _ said price.2 in
     looks_like _ said desk.2 refl
 
 sweep_looks : (roster : Listing) (from : Reading) (fields : Record) (said : Line) → sweep_reading roster from fields ≡ Ok said
     → is_look said ≡ true
 sweep_looks roster from fields said is =
     let self_help = bound (self_help_in roster fields) _ said is in
-    let symbol = bound (symbol_in roster (field fields 3)) _ said self_help.2 in
-    let side = bound (side_in (field fields 2)) _ said symbol.2 in
+    let symbol = bound (symbol_at roster fields 3) _ said self_help.2 in
+    let side = bound (side_at fields 2) _ said symbol.2 in
     let manual = bound (flag_in fields) _ said side.2 in
-    let limit = bound (price_in (field fields 5)) _ said manual.2 in
-    let shares = bound (shares_in (field fields 4)) _ said limit.2 in
-    let desk = bound (desk_below (desks_of from) (field fields 1)) _ said shares.2 in
+    let limit = bound (price_at fields 5) _ said manual.2 in
+    let shares = bound (shares_at fields 4) _ said limit.2 in
+    let desk = bound (desk_at (desks_of from) fields 1) _ said shares.2 in
     looks_like _ said desk.2 refl
 
 kind_looks : (roster : Listing) (from : Reading) (fields : Record) (k : Kind) (said : Line) → is_asked (Some k) ≡ true
@@ -76,19 +82,21 @@ kind_looks roster from fields kind.Through said asked is = through_looks roster 
 kind_looks roster from fields kind.Sweep said asked is = sweep_looks roster from fields said is
 
 named_looks : (settings : Settings) (fields : Record) (named : Option Kind) (said : Line) → is_asked named ≡ true
-    → (ok_or (brought (source.Script settings.desks) named) fault.UnknownKind >>= (λ k.
-    refuse_if (not (is_count k (length fields))) fault.FieldCount >>= (λ counted.
+    → (ok_or (brought (source.Script settings.desks) named) (at fault.UnknownKind 0) >>= (λ k.
+    refuse_if (not (is_count k (length fields))) (of_record fault.FieldCount) >>= (λ counted.
     kind_reading settings.roster (source.Script settings.desks) fields k))) ≡ Ok said
     → is_look said ≡ true
 named_looks settings fields None said asked is = absurd (cc)
 named_looks settings fields (Some k) said asked is =
-    let counted = bound (refuse_if (not (is_count k (length fields))) fault.FieldCount) _ said is in
+    let counted = bound (refuse_if (not (is_count k (length fields))) (of_record fault.FieldCount)) _ said is in
     kind_looks settings.roster (source.Script settings.desks) fields k said asked counted.2
 
 -- the record read for a request whose kind asks for a look
 pub looks_read : (settings : Settings) (fields : Record) (read : Result Line LineFault) → is_asked (kind_named (field fields 0)) ≡ true
     → read ≡ script_reading settings fields → IfOk read (λ said. is_look said ≡ true)
-looks_read settings fields (Ok said) asked is = named_looks settings fields (kind_named (field fields 0)) said asked (sym is)
+looks_read settings fields (Ok said) asked is =
+    named_looks settings fields (kind_named (field fields 0)) said asked
+    (read_so (placed_reading settings.roster (source.Script settings.desks) fields) said (sym is))
 looks_read settings fields (Err why) asked is = tt
 
 -- ---- the answer

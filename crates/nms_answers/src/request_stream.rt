@@ -15,7 +15,7 @@ use crate::epoch_desk::{EpochDesk, LaterDesks};
 use crate::epoch_request::answer_latest;
 use crate::request_counts::RequestCounts;
 use nms_fees::Setup;
-use nms_lines::{ByteRecord, Reader, RecordFault, open_records, read_next};
+use nms_lines::{ByteRecord, Reader, RecordFault, open_records, open_row, read_next};
 use nms_text::tell;
 use nms_whole::WholeLines;
 use std::alloc::Global;
@@ -74,7 +74,7 @@ fn answer_records<R: Read, W: Write, L: LaterDesks>(
     ensures cut { (bytes : Option (List ℕ)) → ReadsFrom R.remaining reader.old bytes [] → IfErr result (λ fault. fault ≡ AnswerFault.WriteFault → AnswersInPart setup.now bytes desk.old desk.new (W.contents answers.old) (W.contents answers.new)) }
     ensures knows { KeepsEpochs desk.old desk.new }
 {
-    let mut row = ByteRecord::new(alloc);
+    let mut row = open_row(alloc);
     let mut text = Vec::new(alloc);
     let mut refused = 0;
     for done in 0..MOST_REQUESTS + 1 {

@@ -25,9 +25,9 @@ pub enum DrawingFault {
     Plan(PlanTextFault),
     /// H3: the number of times is not that of the changes. Nothing was written.
     Times(TimesFault),
-    /// E2: the writer failed. A first part of the answer was written.
+    /// E2: the writer failed. A prefix of the answer was written.
     WriteFault,
-    /// E4: out of memory. A first part of the answer was written, which may be none.
+    /// E4: out of memory. A prefix of the answer was written, which may be none.
     NoMemory,
 }
 

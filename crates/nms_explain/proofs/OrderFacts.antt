@@ -2,7 +2,8 @@
 -- it, then the legs before them, then the record of the plan.
 use Rattle.std.proofs.Common.{arith, ◌≡◌, ◌≤◌, ◌<◌, ◌+◌, ◌∙◌, ◌++◌, ◌∷◌, ◌&&◌, ◌||◌, ◌==◌, [], List, ℕ, Bool, true, false, Option, Some}
 use Rattle.std.proofs.Common.{None, length, refl, sym, ap, ap₂, append_assoc, cond, if◌then◌else◌}
-use Rattle.std.specs.Prelude.{codes, count_by, is_none, is_some, nat_le, nat_lt}
+use Rattle.std.specs.Prelude.{Result, Ok, Err, codes, count_by, is_none, is_ok, is_some, nat_le, nat_lt, not}
+use Rattle.std.specs.Result.{result_err, result_ok}
 use Rattle.std.proofs.lemmas.Bool.{le-leb, lt-leb, ltb-false, ltb-true, ne_eqb}
 use Rattle.std.proofs.lemmas.List.{append-nil}
 use Rattle.std.proofs.lemmas.List.Sums.{sum_by-cons, sum_by_push}
@@ -11,16 +12,17 @@ use Rattle.nms_quote.specs.Roster.{Listing}
 use Rattle.nms_quote.specs.declared.certificate.Cut.{Cut}
 use Rattle.nms_quote.specs.declared.plan.Leg.{Leg}
 use Rattle.nms_lines.specs.Layout.{Record, field, is_text}
-use Rattle.nms_lines.specs.PlanReading.{◌>>=◌, Head, Said, behind_legs, check, cut_in, cuts_in, head_in, is_end, is_few, is_record, leg_in}
-use Rattle.nms_lines.specs.PlanReading.{behind_leg, leg_before, legs_of, plan_in, with_first}
-use Rattle.nms_explain.specs.PlanFields.{cut_place, due_place, end_place, head_place, leg_place}
-use Rattle.nms_explain.specs.PlanOrder.{ReadsWhereNoRecordIsWrong, count_after, count_next, due_after, due_next, is_ended, trouble_after}
-use Rattle.nms_explain.specs.PlanOrder.{trouble_by, troubles_after, wrong_in}
-use Rattle.nms_explain.specs.declared.places.place.Place.{Place}
+use Rattle.nms_lines.specs.Faults.{◌>>=◌ as ◌then◌, refuse_if}
+use Rattle.nms_lines.specs.PlanReading.{◌>>=◌, Said, behind_leg, behind_legs, check, cuts_in, is_end, is_few, leg_before, legs_of, plan_in}
+use Rattle.nms_lines.specs.PlanReading.{with_first}
+use Rattle.nms_lines.specs.PlanRecords.{Head, cut_in, cut_reading, end_reading, head_in, head_reading, leg_in, leg_reading, wrong_as}
+use Rattle.nms_lines.specs.declared.line_fault.FaultPlace.{FaultPlace}
+use Rattle.nms_lines.specs.declared.plan_record.PlanRecord.TheVariants as record_of
+use Rattle.nms_explain.specs.PlanOrder.{ReadsWhereNoRecordIsWrong, count_after, count_next, due_after, due_next, due_place, is_ended}
+use Rattle.nms_explain.specs.PlanOrder.{trouble_after, trouble_by, troubles_after, wrong_in}
 use Rattle.nms_explain.specs.declared.places.plan_walk.PlanDue.{PlanDue}
 use Rattle.nms_explain.specs.declared.places.plan_walk.PlanDue.TheVariants as due
 use Rattle.nms_explain.specs.declared.places.plan_walk.PlanTrouble.{PlanTrouble}
-use Rattle.nms_explain.proofs.PlanFieldFacts.{reads_where_nothing_is_wrong}
 use Rattle.nms_explain.proofs.WalkFacts.{count_more, due_more}
 
 -- ---- record by record
@@ -87,23 +89,36 @@ wrong_more roster seen fields =
 other_word : (word other text : List ℕ) → is_text other word ≡ false → is_text word text ≡ true → is_text other text ≡ false
 other_word word other text differ is = ap (λ (it : List ℕ). is_text other it) ((bytes_eq-Decides text word).0 is) ∙ differ
 
-and_false : (b : Bool) → (b && false) ≡ false
-and_false true = refl
-and_false false = refl
-
-no_record : (word : List ℕ) (count : ℕ) (fields : Record) → is_text word (field fields 0) ≡ false → is_record word count fields ≡ false
-no_record word count fields lacks = ap (λ (b : Bool). (length fields == count) && b) lacks ∙ and_false (length fields == count)
-
-unread : {A : Type 0} (passed : Bool) (next : Unit {0} → Option A) → passed ≡ false → (check passed >>= next) ≡ None
-unread passed next lacks = ap (λ (b : Bool). check b >>= next) lacks
+-- a record of another word is not read
+unread : {A : Type 0} (word : Bool) (at : FaultPlace) (rest : Unit {0} → Result (Unit {0}) FaultPlace) (more : Unit {0} → Result A FaultPlace)
+    → word ≡ false → result_ok ((refuse_if (not word) at then rest) then more) ≡ None
+unread true at rest more lacks = cc
+unread false at rest more lacks = refl
 
 no_cut : (fields : Record) → is_text (codes "CUT") (field fields 0) ≡ false → cut_in fields ≡ None
-no_cut fields lacks = unread (is_record (codes "CUT") 4 fields) _ (no_record (codes "CUT") 4 fields lacks)
+no_cut fields lacks = unread (is_text (codes "CUT") (field fields 0)) _ _ _ lacks
 
 no_leg : (roster : Listing) (fields : Record) → is_text (codes "LEG") (field fields 0) ≡ false → leg_in roster fields ≡ None
-no_leg roster fields lacks = unread (is_record (codes "LEG") 4 fields) _ (no_record (codes "LEG") 4 fields lacks)
+no_leg roster fields lacks = unread (is_text (codes "LEG") (field fields 0)) _ _ _ lacks
 
-no_trouble : (place : Option Place) → is_none (trouble_by place false) ≡ is_none place
+not_ended : (word : Bool) (at : FaultPlace) (rest : Unit {0} → Result (Unit {0}) FaultPlace) → word ≡ false
+    → is_ok (refuse_if (not word) at then rest) ≡ false
+not_ended true at rest lacks = cc
+not_ended false at rest lacks = refl
+
+no_end : (fields : Record) → is_text (codes "END") (field fields 0) ≡ false → is_ok (end_reading fields) ≡ false
+no_end fields lacks = not_ended (is_text (codes "END") (field fields 0)) _ _ lacks
+
+-- a record is read exactly if it is wrong nowhere
+right_is_read : {A : Type 0} (read : Result A FaultPlace) → is_none (result_err read) ≡ is_some (result_ok read)
+right_is_read (Ok said) = refl
+right_is_read (Err at) = refl
+
+right_is_ok : {A : Type 0} (read : Result A FaultPlace) → is_none (result_err read) ≡ is_ok read
+right_is_ok (Ok said) = refl
+right_is_ok (Err at) = refl
+
+no_trouble : (place : Option FaultPlace) → is_none (trouble_by place false) ≡ is_none place
 no_trouble None = refl
 no_trouble (Some at) = refl
 
@@ -114,17 +129,17 @@ of_nothing roster count [] = refl
 of_nothing roster count (fields ∷ more) = sym (ne_eqb (length (fields ∷ more)) 0 (omega arith))
 
 -- a record where a cut is due, by whether it is an end
-abbrev cut_walk : Listing → Bool → Option Place → Option Place → ℕ → List Record → Bool
-cut_walk roster end ended other count more =
-    is_none (trouble_by (if end then ended else other) (nat_lt 32 (if end then 0 else count)))
+abbrev cut_walk : Listing → Bool → Record → ℕ → List Record → Bool
+cut_walk roster end fields count more =
+    is_none (trouble_by (wrong_as (if end then record_of.End else record_of.Cut) roster fields) (nat_lt 32 (if end then 0 else count)))
     && walks roster (if end then due.Nothing else due.Cut) (if end then 0 else count) more
 
-by_end : (roster : Listing) (other : Option Place) (count : ℕ) (fields : Record) (more : List Record)
-    → is_text (codes "END") (field fields 0) ≡ true
-    → cut_walk roster (is_text (codes "END") (field fields 0)) (end_place fields) other count more ≡ is_end fields more
-by_end roster other count fields more is =
-    ap (λ (b : Bool). cut_walk roster b (end_place fields) other count more) is
-    ∙ ap₂ (λ (a b : Bool). a && b) (no_trouble (end_place fields) ∙ reads_where_nothing_is_wrong.end fields) (of_nothing roster 0 more)
+by_end : (roster : Listing) (count : ℕ) (fields : Record) (more : List Record) → is_text (codes "END") (field fields 0) ≡ true
+    → cut_walk roster (is_text (codes "END") (field fields 0)) fields count more ≡ is_end fields more
+by_end roster count fields more is =
+    ap (λ (b : Bool). cut_walk roster b fields count more) is
+    ∙ ap₂ (λ (a b : Bool). a && b) (no_trouble (wrong_as record_of.End roster fields) ∙ right_is_ok (end_reading fields))
+    (of_nothing roster 0 more)
 
 -- ---- the cuts
 
@@ -146,7 +161,7 @@ none_fit count cut None many = refl
 none_fit count cut (Some cuts) many =
     ap (λ (b : Bool). is_some (check b)) (sym (lt-leb (count + length (cut ∷ cuts)) 32 (omega (arith, many))))
 
-one_cut : (place : Option Place) (cut : Option Cut) (count : ℕ) (walked : Bool) (found : Option (List Cut)) → is_none place ≡ is_some cut
+one_cut : (place : Option FaultPlace) (cut : Option Cut) (count : ℕ) (walked : Bool) (found : Option (List Cut)) → is_none place ≡ is_some cut
     → (count + 1 ≤ 32 → walked ≡ cuts_fit (count + 1) found)
     → (is_none (trouble_by place (nat_lt 32 (count + 1))) && walked) ≡ cuts_fit count (cut >>= (λ it. with_first it found))
 one_cut (Some at) None count walked found is rest = refl
@@ -158,10 +173,6 @@ one_cut None (Some cut) count walked found is rest = go (nat_lt 32 (count + 1)) 
         → (is_none (trouble_by None many) && walked) ≡ cuts_fit count (with_first cut found)
     go true many = none_fit count cut found (ltb-true 32 (count + 1) many)
     go false few = rest (ltb-false 32 (count + 1) few) ∙ more_fit count cut found
-
-same_both : (b : Bool) (place : Option Place) → (if b then place else place) ≡ place
-same_both true place = refl
-same_both false place = refl
 
 of_cuts : (roster : Listing) (count : ℕ) (records : List Record) → count ≤ 32
     → walks roster due.Cut count records ≡ cuts_fit count (cuts_in records)
@@ -175,18 +186,15 @@ of_cuts roster count (fields ∷ more) within =
         → walks roster due.Cut count (fields ∷ more)
         ≡ cuts_fit count (if is_end fields more then Some [] else (cut_in fields >>= (λ cut. with_first cut (cuts_in more))))
     go true is rest =
-        by_end roster _ (count + 1) fields more is
+        by_end roster (count + 1) fields more is
         ∙ sym (ended_fit (is_end fields more) count _ within (ap (λ (it : Option Cut). it >>= (λ cut. with_first cut (cuts_in more)))
         (no_cut fields (other_word (codes "END") (codes "CUT") (field fields 0) refl is))))
     go false not_end rest =
-        ap (λ (b : Bool). cut_walk roster b (end_place fields) (if is_text (codes "CUT") (field fields 0) then cut_place fields
-        else cut_place fields) (count + 1) more) not_end
-        ∙ ap (λ (it : Option Place). is_none (trouble_by it (nat_lt 32 (count + 1))) && walks roster due.Cut (count + 1) more)
-        (same_both (is_text (codes "CUT") (field fields 0)) (cut_place fields))
-        ∙ one_cut (cut_place fields) (cut_in fields) count (walks roster due.Cut (count + 1) more) (cuts_in more)
-        (reads_where_nothing_is_wrong.cut fields) rest
+        ap (λ (b : Bool). cut_walk roster b fields (count + 1) more) not_end
+        ∙ one_cut (wrong_as record_of.Cut roster fields) (cut_in fields) count (walks roster due.Cut (count + 1) more) (cuts_in more)
+        (right_is_read (cut_reading fields)) rest
         ∙ ap (λ (b : Bool). cuts_fit count (if b && (length more == 0) then Some []
-        else (cut_in fields >>= (λ cut. with_first cut (cuts_in more))))) (sym (no_record (codes "END") 1 fields not_end))
+        else (cut_in fields >>= (λ cut. with_first cut (cuts_in more))))) (sym (no_end fields not_end))
 
 -- ---- two tests
 
@@ -211,18 +219,18 @@ abbrev legs_fit : ℕ → Option (List Cut) → List Leg → Bool
 legs_fit count found legs = is_some (found >>= (λ cuts. check (nat_le (count + length legs) 32 && nat_le (length cuts) 32)))
 
 -- a record where a leg is due, by whether it is an end or a cut
-abbrev leg_walk : Listing → Bool → Bool → Option Place → Option Place → Option Place → ℕ → List Record → Bool
-leg_walk roster end cut ended as_cut as_leg count more =
-    is_none (trouble_by (if end then ended else (if cut then as_cut else as_leg))
+abbrev leg_walk : Listing → Bool → Bool → Record → ℕ → List Record → Bool
+leg_walk roster end cut fields count more =
+    is_none (trouble_by (wrong_as (if end then record_of.End else (if cut then record_of.Cut else record_of.Leg)) roster fields)
     (nat_lt 32 (if end then 0 else (if cut then 1 else count))))
     && walks roster (if end then due.Nothing else (if cut then due.Cut else due.Leg)) (if end then 0 else (if cut then 1 else count)) more
 
 -- the record after the legs stands where a cut is due
-leg_as_cut : (roster : Listing) (end cut : Bool) (ended as_cut as_leg : Option Place) (count : ℕ) (more : List Record) → (end || cut) ≡ true
-    → leg_walk roster end cut ended as_cut as_leg count more ≡ cut_walk roster end ended (if cut then as_cut else as_cut) 1 more
-leg_as_cut roster true cut ended as_cut as_leg count more later = refl
-leg_as_cut roster false true ended as_cut as_leg count more later = refl
-leg_as_cut roster false false ended as_cut as_leg count more later = cc
+leg_as_cut : (roster : Listing) (end cut : Bool) (fields : Record) (count : ℕ) (more : List Record) → (end || cut) ≡ true
+    → leg_walk roster end cut fields count more ≡ cut_walk roster end fields 1 more
+leg_as_cut roster true cut fields count more later = refl
+leg_as_cut roster false true fields count more later = refl
+leg_as_cut roster false false fields count more later = cc
 
 -- so no leg comes after it
 no_more_legs : (count : ℕ) (found : Option (List Cut)) → count ≤ 32 → cuts_fit 0 found ≡ legs_fit count found []
@@ -242,7 +250,7 @@ many_legs count leg None legs many = refl
 many_legs count leg (Some cuts) legs many =
     ap (λ (b : Bool). is_some (check (b && nat_le (length cuts) 32))) (sym (lt-leb (count + length (leg ∷ legs)) 32 (omega (arith, many))))
 
-one_leg : (place : Option Place) (leg : Option Leg) (count : ℕ) (walked : Bool) (here next : List Record) (legs : List Leg)
+one_leg : (place : Option FaultPlace) (leg : Option Leg) (count : ℕ) (walked : Bool) (here next : List Record) (legs : List Leg)
     → is_none place ≡ is_some leg → cuts_in here ≡ None → (count + 1 ≤ 32 → walked ≡ legs_fit (count + 1) (cuts_in next) legs)
     → (is_none (trouble_by place (nat_lt 32 (count + 1))) && walked)
     ≡ legs_fit count (cuts_in (behind_leg leg here next)) (leg_before leg legs)
@@ -262,7 +270,7 @@ no_cuts : (fields : Record) (more : List Record) → is_text (codes "END") (fiel
 unfolding cuts_in
 no_cuts fields more not_end not_cut =
     ap₂ (λ (b : Bool) (it : Option Cut). if b && (length more == 0) then Some []
-    else (it >>= (λ cut. with_first cut (cuts_in more)))) (no_record (codes "END") 1 fields not_end) (no_cut fields not_cut)
+    else (it >>= (λ cut. with_first cut (cuts_in more)))) (no_end fields not_end) (no_cut fields not_cut)
 
 of_legs : (roster : Listing) (count : ℕ) (records : List Record) → count ≤ 32
     → walks roster due.Leg count records ≡ legs_fit count (cuts_in (behind_legs roster records)) (legs_of roster records)
@@ -287,19 +295,18 @@ of_legs roster count (fields ∷ more) within =
         ≡ legs_fit count (cuts_in (behind_leg (leg_in roster fields) (fields ∷ more) (behind_legs roster more)))
         (leg_before (leg_in roster fields) (legs_of roster more))
     go false false not_end not_cut rest =
-        ap₂ (λ (e c : Bool). leg_walk roster e c (end_place fields) (cut_place fields) (leg_place roster fields) (count + 1) more)
-        not_end not_cut
-        ∙ one_leg (leg_place roster fields) (leg_in roster fields) count (walks roster due.Leg (count + 1) more) (fields ∷ more)
-        (behind_legs roster more) (legs_of roster more) (reads_where_nothing_is_wrong.leg roster fields)
+        ap₂ (λ (e c : Bool). leg_walk roster e c fields (count + 1) more) not_end not_cut
+        ∙ one_leg (wrong_as record_of.Leg roster fields) (leg_in roster fields) count (walks roster due.Leg (count + 1) more)
+        (fields ∷ more) (behind_legs roster more) (legs_of roster more) (right_is_read (leg_reading roster fields))
         (no_cuts fields more not_end not_cut) rest
     go true cut end is_cut rest =
-        leg_as_cut roster (is_text (codes "END") (field fields 0)) (is_text (codes "CUT") (field fields 0)) (end_place fields)
-        (cut_place fields) (leg_place roster fields) (count + 1) more (either_is (is_text (codes "END") (field fields 0)) _ end)
+        leg_as_cut roster (is_text (codes "END") (field fields 0)) (is_text (codes "CUT") (field fields 0)) fields (count + 1) more
+        (either_is (is_text (codes "END") (field fields 0)) _ end)
         ∙ of_cuts roster 0 (fields ∷ more) (omega arith)
         ∙ after (other_word (codes "END") (codes "LEG") (field fields 0) refl end)
     go false true not_end cut rest =
-        leg_as_cut roster (is_text (codes "END") (field fields 0)) (is_text (codes "CUT") (field fields 0)) (end_place fields)
-        (cut_place fields) (leg_place roster fields) (count + 1) more (or_is (is_text (codes "END") (field fields 0)) _ cut)
+        leg_as_cut roster (is_text (codes "END") (field fields 0)) (is_text (codes "CUT") (field fields 0)) fields (count + 1) more
+        (or_is (is_text (codes "END") (field fields 0)) _ cut)
         ∙ of_cuts roster 0 (fields ∷ more) (omega arith)
         ∙ after (other_word (codes "CUT") (codes "LEG") (field fields 0) refl cut)
 
@@ -321,7 +328,7 @@ said (Some head) (Some cuts) legs =
 of_plan : (roster : Listing) (records : List Record) → walks roster due.Plan 0 records ≡ is_some (plan_in roster records)
 of_plan roster [] = refl
 of_plan roster (fields ∷ more) =
-    ap₂ (λ (a b : Bool). a && b) (no_trouble (head_place roster fields) ∙ reads_where_nothing_is_wrong.head roster fields)
+    ap₂ (λ (a b : Bool). a && b) (no_trouble (wrong_as record_of.Plan roster fields) ∙ right_is_read (head_reading roster fields))
     (of_legs roster 0 more (omega arith))
     ∙ said (head_in roster fields) (cuts_in (behind_legs roster more)) (legs_of roster more)
 

@@ -8,9 +8,8 @@ use Rattle.std.proofs.lemmas.List.{length-append}
 use Rattle.std.proofs.lemmas.List.Folds.{list_any-append}
 use Rattle.nms_quote.specs.Roster.{Listing}
 use Rattle.nms_lines.specs.Layout.{Record, field, is_text}
-use Rattle.nms_explain.specs.PlanFields.{due_place}
-use Rattle.nms_explain.specs.PlanOrder.{HasPassed, begins, count_after, count_next, due_after, due_next, from_cut, has_word, trouble_after}
-use Rattle.nms_explain.specs.PlanOrder.{trouble_by}
+use Rattle.nms_explain.specs.PlanOrder.{HasPassed, begins, count_after, count_next, due_after, due_next, due_place, from_cut, has_word}
+use Rattle.nms_explain.specs.PlanOrder.{trouble_after, trouble_by}
 use Rattle.nms_explain.specs.declared.places.plan_walk.PlanDue.{PlanDue}
 use Rattle.nms_explain.specs.declared.places.plan_walk.PlanDue.TheVariants as due
 use Rattle.nms_explain.specs.declared.places.plan_walk.PlanTrouble.TheVariants as trouble

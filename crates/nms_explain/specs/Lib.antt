@@ -1,14 +1,10 @@
-pub use Rattle.nms_lines.specs.FaultTable as FaultTable
 pub use Rattle.nms_lines.specs.Layout as Layout
 pub mod Counted
 pub mod ExecutionCodes
 pub mod Faults
 pub mod FieldNames
-pub mod FieldTable
-pub mod Looks
 pub mod Names
 pub mod PlanExamples
-pub mod PlanFields
 pub mod PlanOrder
 pub mod Planned
 pub mod Source

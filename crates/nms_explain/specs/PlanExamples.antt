@@ -3,9 +3,8 @@ use Rattle.std.specs.Prelude.{◌≡◌, [], ◌∷◌, codes, replicate, Some, 
 use Rattle.nms_quote.specs.Roster.{Listing}
 use Rattle.nms_quote.specs.declared.feed.Feed.TheVariants as feed
 use Rattle.nms_lines.specs.Layout.{Record}
+use Rattle.nms_lines.specs.declared.line_fault.FaultPlace.TheVariants as place
 use Rattle.nms_explain.specs.PlanOrder.{count_after, due_after, trouble_after, wrong_in}
-use Rattle.nms_explain.specs.declared.places.field_name.FieldName.TheVariants as name
-use Rattle.nms_explain.specs.declared.places.place.Place.TheVariants as place
 use Rattle.nms_explain.specs.declared.places.plan_walk.PlanDue.TheVariants as due
 use Rattle.nms_explain.specs.declared.places.plan_walk.PlanTrouble.TheVariants as trouble
 
@@ -40,7 +39,7 @@ pub record ExamplesHold : Type 0 where
   -- a leg is right after the plan, wrong after a cut, and one too many after 32
   pub right : trouble_after roster (plan ∷ []) leg ≡ None
   pub after_cut :
-      trouble_after roster (plan ∷ cut ∷ []) leg ≡ Some (trouble.Wrong (place.Field (record { place = 0; name = name.Kind })))
+      trouble_after roster (plan ∷ cut ∷ []) leg ≡ Some (trouble.Wrong (place.Field 0))
   pub one_too_many : trouble_after roster (plan ∷ replicate 32 leg) leg ≡ Some trouble.TooMany
   -- a text with a leg after its cut has one wrong record
   pub one_wrong : wrong_in roster (plan ∷ cut ∷ leg ∷ end ∷ []) ≡ 1

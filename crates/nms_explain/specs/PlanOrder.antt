@@ -6,8 +6,11 @@ use Rattle.std.specs.List.{list_any}
 use Rattle.nms_quote.specs.Roster.{Listing}
 use Rattle.nms_lines.specs.Layout.{Record, field, is_text}
 use Rattle.nms_lines.specs.PlanReading.{plan_in}
-use Rattle.nms_explain.specs.PlanFields.{due_place}
-use Rattle.nms_explain.specs.declared.places.place.Place.{Place}
+use Rattle.nms_lines.specs.PlanRecords.{wrong_as}
+use Rattle.nms_lines.specs.declared.line_fault.FaultPlace.{FaultPlace}
+use Rattle.nms_lines.specs.declared.line_fault.FaultPlace.TheVariants as place
+use Rattle.nms_lines.specs.declared.plan_record.PlanRecord.{PlanRecord}
+use Rattle.nms_lines.specs.declared.plan_record.PlanRecord.TheVariants as record_of
 use Rattle.nms_explain.specs.declared.places.plan_walk.PlanDue.{PlanDue}
 use Rattle.nms_explain.specs.declared.places.plan_walk.PlanDue.TheVariants as due
 use Rattle.nms_explain.specs.declared.places.plan_walk.PlanTrouble.{PlanTrouble}
@@ -49,8 +52,25 @@ abbrev pub count_after : List Record → ℕ
 count_after [] = 0
 count_after (fields ∷ more) = length (listed_in more)
 
+-- as which record one that begins with that word is read, by what is due: an end or a cut by its word; none after the end
+abbrev pub record_due : PlanDue → List ℕ → Option PlanRecord
+record_due due.Plan word = Some record_of.Plan
+record_due due.Leg word =
+    Some (if is_text (codes "END") word then record_of.End else (if is_text (codes "CUT") word then record_of.Cut else record_of.Leg))
+record_due due.Cut word = Some (if is_text (codes "END") word then record_of.End else record_of.Cut)
+record_due due.Nothing word = None
+
+-- where it is wrong as that record; if none is due, its first field is
+abbrev pub wrong_by : Option PlanRecord → Listing → Record → Option FaultPlace
+wrong_by None roster fields = Some (place.Field 0)
+wrong_by (Some sort) roster fields = wrong_as sort roster fields
+
+-- where a record is wrong, by what is due
+abbrev pub due_place : PlanDue → Listing → Record → Option FaultPlace
+due_place due roster fields = wrong_by (record_due due (field fields 0)) roster fields
+
 -- the place that is wrong, or else whether it is one too many
-abbrev pub trouble_by : Option Place → Bool → Option PlanTrouble
+abbrev pub trouble_by : Option FaultPlace → Bool → Option PlanTrouble
 trouble_by (Some at) many = Some (trouble.Wrong at)
 trouble_by None many = if many then Some trouble.TooMany else None
 

@@ -13,12 +13,12 @@ ghost use Rattle.nms_show.specs.Plain.{is_own_plain};
 ghost use Rattle.nms_show.specs.Safe.{IsSafe};
 ghost use Rattle.nms_show.specs.Written.{Writes};
 
-use crate::expectation::{expected_field, layout_of};
+use crate::expectation::expected_field;
 use crate::explain_fault::ExplainFault;
 use crate::hints::{hint_of, hint_of_feed, parted_number};
 use crate::line_count::LineCount;
 use crate::places::{
-    Counts, FieldName, FieldPlace, Place, kind_of, place_of, text_at, unknown_name,
+    FieldName, FieldPlace, field_in, kind_of, layout_of, most_fields, text_at, unknown_name,
 };
 use crate::record_source::{RecordSource, RecordText, next_record, open_source, record_of};
 use crate::refusal::{Refusal, tell_refusal};
@@ -28,7 +28,10 @@ use crate::span::{Point, Span, name_span, open_quote, point_at, span_of};
 use crate::tally::{Tally, tell_remark};
 use nms_codes::Code;
 use nms_fees::Setup;
-use nms_lines::{ByteRecord, Kind, LineFault, Reader, Reading, RecordFault, read_line};
+use nms_lines::{
+    ByteRecord, FaultPlace, Kind, LineFault, PlacedFault, Reader, Reading, RecordFault,
+    read_line_at,
+};
 use nms_quote::{Feed, Roster};
 use nms_show::{Ending, Form, Item, SafeText};
 use std::alloc::{AllocError, Global};
@@ -249,14 +252,14 @@ fn explain_record<R: Read>(
     ensures counts { (seen : List Record) → IsTallyOf (reading asked.now.roster.now asked.now.from) seen tally.old
         → IsTallyOf (reading asked.now.roster.now asked.now.from) (seen ++ fields_of row.now ∷ []) tally.new }
 {
-    match read_line(row, asked.roster, asked.from) {
+    match read_line_at(row, asked.roster, asked.from) {
         Ok(line) => {
             tally.take(&line);
             Ok(())
         }
-        Err(fault) => {
-            tally.refuse(fault);
-            tell_fault(asked, reader, number, row, fault, out)
+        Err(refused) => {
+            tally.refuse(refused.fault);
+            tell_fault(asked, reader, number, row, refused, out)
         }
     }
 }
@@ -267,13 +270,13 @@ fn tell_fault<R: Read>(
     reader: &Reader<RecordSource<R>>,
     number: u64,
     row: &ByteRecord,
-    fault: LineFault,
+    refused: PlacedFault,
     out: &mut SafeText,
 ) -> Result<(), ExplainFault> {
     let Some(record) = record_of(reader) else {
         return Err(TOO_LONG);
     };
-    let refusal = refusal_of(asked, record, number, row, fault);
+    let refusal = refusal_of(asked, record, number, row, refused);
     let Some(point) = refusal.point() else {
         return Err(TOO_LONG);
     };
@@ -287,12 +290,13 @@ fn refusal_of<'a>(
     record: RecordText<'a>,
     number: u64,
     row: &'a ByteRecord,
-    fault: LineFault,
+    refused: PlacedFault,
 ) -> Refusal<'a>
     ensures found { is_own_plain result.found ≡ true }
 {
     let RecordText { text, line } = record;
-    let finding = finding_of(asked, text, row, fault);
+    let fault = refused.fault;
+    let finding = finding_of(asked, text, row, refused);
     let hint = match finding.field {
         Some(at) if fault == LineFault::WrongFeed && at.name == FieldName::Participant => {
             hint_of_feed(text_at(row, at.place), asked.roster)
@@ -310,7 +314,7 @@ fn refusal_of<'a>(
         found: finding.found,
         expected: finding.expected,
         hint,
-        remedy: remedy_in(fault, has_sides(kind_of(row))),
+        remedy: remedy_in(fault, matches!(kind_of(row), Some(Kind::Quote))),
         quote: quote_at(text, line),
     }
 }
@@ -320,33 +324,13 @@ fn finding_of<'a>(
     asked: &Asked<'a>,
     text: &'a [u8],
     row: &'a ByteRecord,
-    fault: LineFault,
+    refused: PlacedFault,
 ) -> Finding<'a>
     ensures found { is_own_plain result.found ≡ true }
 {
-    match place_of(row, fault) {
-        Place::Count => count_of(row, text),
-        Place::Field(at) => field_of(asked, text, row, fault, at),
-    }
-}
-
-/// Whether a record of that kind has a bid and an offer.
-fn has_sides(kind: Option<Kind>) -> bool {
-    match kind {
-        Some(Kind::Quote) => true,
-        Some(
-            Kind::State
-            | Kind::Withdraw
-            | Kind::Lot
-            | Kind::TakeOne
-            | Kind::TakeAll
-            | Kind::Publish
-            | Kind::Tell
-            | Kind::Best
-            | Kind::Through
-            | Kind::Sweep,
-        )
-        | None => false,
+    match refused.place {
+        FaultPlace::Record => count_of(row, text),
+        FaultPlace::Field(place) => field_of(asked, text, row, refused.fault, field_in(row, place)),
     }
 }
 
@@ -393,7 +377,7 @@ fn surplus_span(row: &ByteRecord, text: &[u8]) -> Span {
             end: span_of(text, place + 1).end,
         };
     }
-    let most = kind_of(row).map_or(0, |kind| Counts::of_kind(kind).most);
+    let most = most_fields(row);
     let start = span_of(text, most).start;
     if start == end && end > 0 && count > most {
         return Span {

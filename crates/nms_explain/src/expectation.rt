@@ -1,6 +1,6 @@
 //! What is expected at the place of a refusal.
-use crate::places::FieldName;
-use nms_lines::{Kind, LineFault, Reading};
+use crate::places::{FieldName, expected_kind};
+use nms_lines::{LineFault, Reading};
 use nms_quote::Feed;
 
 /// What is expected of a field that was refused.
@@ -17,15 +17,6 @@ pub(crate) fn expected_field(fault: LineFault, name: FieldName, from: Reading) -
         LineFault::WrongFeed => expected_sender(name, from),
         LineFault::BadDesk => "a desk: 1 or 2 digits, below the setup's number of desks",
         LineFault::BadLot => "a round lot: 1 to 4 digits, from 1 to 1000",
-    }
-}
-
-/// The kinds that the source allows.
-fn expected_kind(from: Reading) -> &'static str {
-    match from {
-        Reading::Script { .. } => "a kind of a script: Q, S, X, R, T, F, P, L, N, E or O",
-        Reading::FromFeed(_) | Reading::Changes => "a kind of a change: Q, S, X or R",
-        Reading::Orders { .. } => "the kind of an order: O",
     }
 }
 
@@ -105,23 +96,5 @@ fn participant_of(feed: Feed) -> &'static str {
         Feed::F => "a participant of feed F",
         Feed::G => "a participant of feed G",
         Feed::H => "a participant of feed H",
-    }
-}
-
-/// The fields of a record of the kind.
-pub(crate) fn layout_of(kind: Option<Kind>) -> &'static str {
-    match kind {
-        Some(Kind::Quote) => "8: Q,part,sym,state,bid,bidshares,offer,offershares",
-        Some(Kind::State) => "4: S,part,sym,state",
-        Some(Kind::Withdraw) => "2: X,part",
-        Some(Kind::Lot) => "3: R,sym,lot, or 4: R,sym,AVG,price",
-        Some(Kind::TakeOne) => "1: T",
-        Some(Kind::TakeAll) => "1: F",
-        Some(Kind::Publish) => "1: P",
-        Some(Kind::Tell) => "2: L,desk",
-        Some(Kind::Best) => "3: N,desk,sym",
-        Some(Kind::Through) => "4: E,desk,sym,price",
-        Some(Kind::Sweep) => "6 to 8: O,desk,side,sym,shares,limit, then a flag, then names",
-        None => "a kind",
     }
 }

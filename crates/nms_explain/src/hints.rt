@@ -2,7 +2,7 @@
 ghost use Rattle.std.specs.Prelude.{◌+◌, ◌<◌, ◌^◌, IfSome, length};
 ghost use Rattle.csv.specs.Records.{fields_of};
 
-use crate::places::{Counts, kind_of, text_at};
+use crate::places::{kind_of, most_fields, text_at};
 use memchr::memchr;
 use nms_lines::{ByteRecord, LineFault};
 use nms_quote::{Feed, Roster};
@@ -144,10 +144,10 @@ fn has_more(row: &ByteRecord) -> bool {
 
 /// How many fields too many a record has for its kind.
 fn surplus(row: &ByteRecord) -> usize {
-    let Some(kind) = kind_of(row) else {
+    if kind_of(row).is_none() {
         return 0;
-    };
-    let (count, most) = (row.len(), Counts::of_kind(kind).most);
+    }
+    let (count, most) = (row.len(), most_fields(row));
     if count > most { count - most } else { 0 }
 }
 

@@ -27,9 +27,6 @@ pub use code_words::explain_code;
 pub use execution_code::ExecutionCode;
 pub use executions::{RefusedExecution, explain_executions};
 pub use explain_fault::ExplainFault;
-pub use places::{
-    a_fault_stands_at_its_fields, a_plan_is_read_where_no_record_is_wrong,
-    a_plan_record_is_read_where_no_field_is_wrong, the_worked_plans_hold,
-};
+pub use places::{a_plan_is_read_where_no_record_is_wrong, the_worked_plans_hold};
 pub use plan_text::explain_plan;
 pub use times_text::explain_times;

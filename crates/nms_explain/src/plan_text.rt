@@ -13,7 +13,9 @@ ghost use Rattle.nms_show.specs.Written.{Writes};
 use crate::changes::{TOO_LONG, quote_at, unknown_span};
 use crate::explain_fault::ExplainFault;
 use crate::hints::hint_of_kind;
-use crate::places::{FieldName, FieldPlace, Place, PlanDue, PlanTrouble, PlanWalk, text_at};
+use crate::places::{
+    FieldName, FieldPlace, PlanDue, PlanTrouble, PlanWalk, plan_field_in, record_due, text_at,
+};
 use crate::record_source::{RecordSource, RecordText, next_record, open_source, record_of};
 use crate::refusal::{Refusal, tell_missing, tell_refusal};
 use crate::refusal_code::RefusalCode;
@@ -21,7 +23,7 @@ use crate::span::{Point, Span, span_of};
 use crate::tally::{tell_count, tell_counts};
 use nms_codes::Code;
 use nms_fees::Setup;
-use nms_lines::{ByteRecord, Reader};
+use nms_lines::{ByteRecord, FaultPlace, Reader};
 use nms_quote::Roster;
 use nms_show::{Ending, Form, Item, SafeText};
 use std::alloc::{AllocError, Global};
@@ -216,8 +218,11 @@ fn refusal_of<'a>(
     let RecordText { text, line } = record;
     let (field, expected) = match trouble {
         PlanTrouble::TooMany => (Some(first_field()), "at most 32 legs and 32 cuts"),
-        PlanTrouble::Wrong(Place::Count) => (None, layout_of(text_at(row, 0))),
-        PlanTrouble::Wrong(Place::Field(at)) => (Some(at), expected_of(due, at.name)),
+        PlanTrouble::Wrong(FaultPlace::Record) => (None, layout_of(text_at(row, 0))),
+        PlanTrouble::Wrong(FaultPlace::Field(place)) => {
+            let at = plan_field_in(record_due(due, text_at(row, 0)), place);
+            (Some(at), expected_of(due, at.name))
+        }
     };
     let span = match field {
         Some(at) => span_at(text, row, at, asked.roster),

@@ -12,7 +12,9 @@ use crate::feed_fault::FeedFault;
 use crate::feed_watch::FeedWatch;
 use nms_feed::{MOST_SENT, Sender};
 use nms_fees::Setup;
-use nms_lines::{ByteRecord, Reader, RecordFault, open_records, read_feed_change, read_next};
+use nms_lines::{
+    ByteRecord, Reader, RecordFault, open_records, open_row, read_feed_change, read_next,
+};
 use nms_quote::SideQuote;
 use nms_units::Lot;
 use nms_whole::WholeLines;
@@ -50,7 +52,7 @@ pub fn send_stream<W: Wait, R: Read + Drop, O: FeedWatch>(
     ensures refused { IfErr result (IsRefusedAt setup.now.roster sender.old.feed (option_map whole_lines (R.remaining source)) counts.old strict) }
 {
     let mut reader = open_records(alloc, WholeLines::new(source));
-    let mut row = ByteRecord::new(alloc);
+    let mut row = open_row(alloc);
     send_rows(
         rt,
         setup,

@@ -14,7 +14,7 @@ pub enum ReportFault {
     Changes(ChangesFault),
     /// B1: no board was made. Nothing was written.
     Board(BoardFault),
-    /// E2: the writer failed. A first part of the report was written, and nothing else.
+    /// E2: the writer failed. A prefix of the report was written, and nothing else.
     WriteFault,
     /// E4: out of memory. Nothing was written.
     NoMemory,

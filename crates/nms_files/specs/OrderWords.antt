@@ -1,13 +1,15 @@
 -- The order that the words of `plan` say: that of a script's record with these fields. This product's own rule.
 use Rattle.std.specs.Prelude.{ℕ, Bool, true, false, List, [], ◌∷◌, Option, Some, None, Result, Ok, Err, codes}
+use Rattle.nms_units.specs.Price.{price_number}
 use Rattle.nms_quote.specs.Members.{nobody}
-use Rattle.nms_quote.specs.Roster.{Listing}
+use Rattle.nms_quote.specs.Roster.{Listing, place_in}
 use Rattle.nms_quote.specs.Terms.{Terms}
-use Rattle.nms_lines.specs.Faults.{◌>>=◌}
-use Rattle.nms_lines.specs.Fields.{price_in, shares_in, side_in, symbol_in}
+use Rattle.nms_lines.specs.Fields.{side_named}
 use Rattle.nms_lines.specs.Layout.{Record}
 use Rattle.nms_lines.specs.Lines.{reading}
 use Rattle.nms_lines.specs.Named.{named_in}
+use Rattle.nms_lines.specs.Numbers.{above_zero, shares_number}
+use Rattle.nms_lines.specs.PlanReading.{◌>>=◌}
 use Rattle.nms_lines.specs.declared.line.Line.{Line}
 use Rattle.nms_lines.specs.declared.line.Line.TheVariants as line
 use Rattle.nms_lines.specs.declared.line.Reading.TheVariants as source
@@ -47,12 +49,12 @@ order_in (Err fault) = None
 
 -- the order of words that names those participants
 abbrev pub order_with : Listing → List ℕ → List ℕ → List ℕ → List ℕ → Bool → ℕ → Option Terms
-order_with roster side sym shares limit manual self_help = order_in (do
-  sym ← symbol_in roster sym
-  side ← side_in side
-  limit ← price_in limit
-  shares ← shares_in shares
-  Ok (line.Sweep 0 (record { side = side; sym = sym; shares = shares; limit = limit; manual = manual; self_help = self_help })))
+order_with roster side sym shares limit manual self_help = do
+  sym ← place_in roster.syms sym
+  side ← side_named side
+  limit ← above_zero (price_number limit)
+  shares ← above_zero (shares_number shares)
+  Some (record { side = side; sym = sym; shares = shares; limit = limit; manual = manual; self_help = self_help })
 
 -- the order that a script of one desk reads from it, or none
 abbrev pub order_asked : Listing → List ℕ → List ℕ → List ℕ → List ℕ → Bool → Option (List ℕ) → Option Terms

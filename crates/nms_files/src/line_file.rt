@@ -7,7 +7,7 @@ ghost use Rattle.nms_lines.specs.Records.{AreAllRecords, ReadsFrom};
 ghost use Rattle.nms_files.specs.LineFile.{HaveCome};
 
 use nms_fees::Setup;
-use nms_lines::{ByteRecord, Reader, RecordFault, open_records, read_next};
+use nms_lines::{ByteRecord, Reader, RecordFault, open_records, open_row, read_next};
 use std::alloc::Global;
 use std::io::Read;
 
@@ -48,7 +48,7 @@ pub(crate) fn read_items<R: Read + Drop, T: FileItem>(
         × HaveCome (T.are_taken setup.now) (T.is_refused setup.now) records taken.items.items taken.refused) }
 {
     let mut reader = open_records(alloc, source);
-    let mut row = ByteRecord::new(alloc);
+    let mut row = open_row(alloc);
     let mut so_far = Taken {
         items: Vec::new(alloc),
         refused: None,

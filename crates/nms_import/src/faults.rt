@@ -318,7 +318,19 @@ fn is_wrong(draft: Draft<'_>, row: &Row, before: &[Value], text: &str, after: &[
         Form::Pairs => text.len() != 1 || after.is_empty() && before.len() % 2 == 0,
         Form::Conditions => has_text(before, text) || is_earlier(draft, row, text),
         Form::Letters | Form::Others => text.len() != 1,
-        _ => false,
+        Form::Table
+        | Form::Choice
+        | Form::Delimiter
+        | Form::Flag
+        | Form::Text
+        | Form::Count
+        | Form::Column
+        | Form::Columns
+        | Form::SizeUnit
+        | Form::Lot
+        | Form::Zone
+        | Form::Name
+        | Form::Words => false,
     }
 }
 

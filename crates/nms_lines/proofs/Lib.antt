@@ -1,7 +1,6 @@
 pub mod FaultsRead
 pub mod FieldFacts
 pub mod FirstFault
-pub mod HeadFacts
 pub mod LeftFacts
 pub mod NamedFacts
 pub mod OneReading

@@ -1,9 +1,10 @@
 -- Reading a plan from records, step by step.
-use Rattle.std.proofs.Common.{arith, ◌≡◌, ◌<◌, ◌≤◌, ◌&&◌, ◌==◌, true, false, List, [], ◌∷◌, ◌++◌, refl, sym, ap, ◌∙◌, Option, Some, None}
+use Rattle.std.proofs.Common.{arith, ◌≡◌, ◌<◌, ◌≤◌, ◌&&◌, ◌==◌, Bool, true, false, List, [], ◌∷◌, ◌++◌, refl, sym, ap, ◌∙◌, Option, Some, None}
 use Rattle.std.proofs.Common.{inl, inr, length, append_assoc}
 use Rattle.std.specs.Option.{ok_or}
-use Rattle.std.specs.Prelude.{◌⊎◌, IfOk, IfSome, Result, codes, option_map}
-use Rattle.std.proofs.lemmas.Bool.{and_parts, eqb-true, le-leb, lt-leb, ne_eqb}
+use Rattle.std.specs.Prelude.{◌⊎◌, IfOk, IfSome, Result, codes, is_ok, not, option_map}
+use Rattle.std.specs.Result.{result_ok}
+use Rattle.std.proofs.lemmas.Bool.{eqb-true, le-leb, lt-leb, ne_eqb}
 use Rattle.std.proofs.Math.Bool.{and-false}
 use Rattle.nms_lines.specs.Layout.{field, is_text}
 use Rattle.std.proofs.lemmas.Iterator.Adapters.{option_map_id}
@@ -12,8 +13,10 @@ use Rattle.nms_quote.specs.Roster.{Listing}
 use Rattle.nms_quote.specs.declared.plan.Leg.{Leg}
 use Rattle.nms_quote.specs.declared.certificate.Cut.{Cut}
 use Rattle.nms_lines.specs.Layout.{Record}
-use Rattle.nms_lines.specs.PlanReading.{◌>>=◌, Head, Said, behind_legs, check, cut_in, cuts_in, head_in, is_end, is_few, is_record, leg_in}
-use Rattle.nms_lines.specs.PlanReading.{legs_of, plan_in, with_first}
+use Rattle.nms_lines.specs.Faults.{◌>>=◌ as ◌then◌, refuse_if}
+use Rattle.nms_lines.specs.PlanReading.{◌>>=◌, Said, behind_legs, check, cuts_in, is_end, is_few, legs_of, plan_in, with_first}
+use Rattle.nms_lines.specs.PlanRecords.{Head, cut_in, end_reading, head_in, leg_in}
+use Rattle.nms_lines.specs.declared.line_fault.FaultPlace.{FaultPlace}
 
 -- no plan without its record
 pub no_head : (roster : Listing) (left : List Record) (fields : Record) (more : List Record) → left ≡ fields ∷ more
@@ -92,7 +95,7 @@ pub cuts_start : (all : List Record) → CutsRead all [] all
 cuts_start all = sym (option_map_id (cuts_in all))
 
 -- a record that is not an end
-no_end : (fields : Record) (behind : List Record) → is_record (codes "END") 1 fields ≡ false → is_end fields behind ≡ false
+no_end : (fields : Record) (behind : List Record) → is_ok (end_reading fields) ≡ false → is_end fields behind ≡ false
 no_end fields behind other = rw other refl
 
 together : (cuts : List Cut) (cut : Cut) (more : Option (List Cut))
@@ -101,7 +104,7 @@ together cuts cut None = refl
 together cuts cut (Some more) = ap (λ (list : List Cut). Some list) (sym (append_assoc cuts (cut ∷ []) more))
 
 pub cuts_more : (all left : List Record) (cuts : List Cut) (fields : Record) (cut : Cut)
-    → CutsRead all cuts (fields ∷ left) → is_record (codes "END") 1 fields ≡ false → cut_in fields ≡ Some cut
+    → CutsRead all cuts (fields ∷ left) → is_ok (end_reading fields) ≡ false → cut_in fields ≡ Some cut
     → CutsRead all (cuts ++ cut ∷ []) left
 unfolding cuts_in
 cuts_more all left cuts fields cut was other one =
@@ -109,7 +112,7 @@ cuts_more all left cuts fields cut was other one =
     before ∙ together cuts cut (cuts_in left)
 
 pub cuts_end : (all left : List Record) (cuts : List Cut) (fields : Record)
-    → CutsRead all cuts (fields ∷ left) → is_record (codes "END") 1 fields ≡ true → left ≡ [] → cuts_in all ≡ Some cuts
+    → CutsRead all cuts (fields ∷ left) → is_ok (end_reading fields) ≡ true → left ≡ [] → cuts_in all ≡ Some cuts
 unfolding cuts_in
 cuts_end all left cuts fields was end is =
     let before = rw (is, end, append-nil cuts) at was in before
@@ -122,14 +125,27 @@ NoCuts all = IfSome (cuts_in all) (λ cuts. is_few cuts ≡ false)
 none_is : (all : List Record) → cuts_in all ≡ None → NoCuts all
 none_is all none = rw none tt
 
+-- a record that has as many fields as it must, and one that does not
+counted : (word counts : Bool) (first last : FaultPlace)
+    → is_ok (refuse_if (not word) first then (λ named. refuse_if (not counts) last)) ≡ true → counts ≡ true
+counted true true first last is = refl
+counted true false first last is = cc
+counted false counts first last is = cc
+
+uncounted : {A : Type 0} (word counts : Bool) (first last : FaultPlace) (more : Unit {0} → Result A FaultPlace) → counts ≡ false
+    → result_ok ((refuse_if (not word) first then (λ named. refuse_if (not counts) last)) then more) ≡ None
+uncounted true true first last more is = cc
+uncounted true false first last more is = refl
+uncounted false counts first last more is = refl
+
 -- an end is not a cut
-end_no_cut : (fields : Record) → is_record (codes "END") 1 fields ≡ true → cut_in fields ≡ None
+end_no_cut : (fields : Record) → is_ok (end_reading fields) ≡ true → cut_in fields ≡ None
 end_no_cut fields end =
-    let one = eqb-true (length fields) 1 (and_parts (length fields == 1) (is_text (codes "END") (field fields 0)) end).0 in
-    rw one refl
+    let one = eqb-true (length fields) 1 (counted (is_text (codes "END") (field fields 0)) (length fields == 1) _ _ end) in
+    uncounted (is_text (codes "CUT") (field fields 0)) (length fields == 4) _ _ _ (ap (λ n. n == 4) one)
 
 pub cuts_behind : (all left : List Record) (cuts : List Cut) (fields : Record)
-    → CutsRead all cuts (fields ∷ left) → is_record (codes "END") 1 fields ≡ true → 0 < length left → NoCuts all
+    → CutsRead all cuts (fields ∷ left) → is_ok (end_reading fields) ≡ true → 0 < length left → NoCuts all
 unfolding cuts_in
 cuts_behind all left cuts fields was end some =
     let more = ne_eqb (length left) 0 (omega (arith, some)) in
@@ -137,7 +153,7 @@ cuts_behind all left cuts fields was end some =
     none_is all before
 
 pub cuts_bad : (all left : List Record) (cuts : List Cut) (fields : Record)
-    → CutsRead all cuts (fields ∷ left) → is_record (codes "END") 1 fields ≡ false → cut_in fields ≡ None → NoCuts all
+    → CutsRead all cuts (fields ∷ left) → is_ok (end_reading fields) ≡ false → cut_in fields ≡ None → NoCuts all
 unfolding cuts_in
 cuts_bad all left cuts fields was other none =
     let before = rw (no_end fields left other, none) at was in
@@ -159,7 +175,7 @@ pub cuts_over : (all : List Record) (cuts : List Cut) (left : List Record) → C
 cuts_over all cuts left was many = rw was (over cuts (cuts_in left) many)
 
 pub cuts_many : (all left : List Record) (cuts : List Cut) (fields : Record) (cut : Cut)
-    → CutsRead all cuts (fields ∷ left) → is_record (codes "END") 1 fields ≡ false → cut_in fields ≡ Some cut → 32 ≤ length cuts
+    → CutsRead all cuts (fields ∷ left) → is_ok (end_reading fields) ≡ false → cut_in fields ≡ Some cut → 32 ≤ length cuts
     → NoCuts all
 cuts_many all left cuts fields cut was other one full =
     cuts_over all (cuts ++ cut ∷ []) left (cuts_more all left cuts fields cut was other one) (omega (arith, length-append cuts (cut ∷ [])))

@@ -28,7 +28,8 @@ use Rattle.nms_lines.specs.Fields.{flag_named, side_named}
 use Rattle.nms_lines.specs.Layout.{Record}
 use Rattle.nms_lines.specs.Numbers.{above_zero, shares_number}
 use Rattle.nms_lines.specs.PlanLaws.{FitsText, IsCutInRange, IsKindInRange, IsLegInRange, IsMoneyInRange, IsPriceInRange, ReadsAsWritten}
-use Rattle.nms_lines.specs.PlanReading.{behind_legs, cut_in, cuts_in, head_in, is_end, leg_in, legs_of, plan_in, said_by}
+use Rattle.nms_lines.specs.PlanReading.{behind_legs, cuts_in, legs_of, plan_in, said_by}
+use Rattle.nms_lines.specs.PlanRecords.{cut_in, head_in, leg_in}
 use Rattle.nms_lines.specs.PlanText.{cut_record, end_record, flag_text, leg_record, plan_record, plan_records, side_letter}
 use Rattle.nms_lines.specs.Records.{AreAllRecords}
 use Rattle.nms_lines.proofs.NamedFacts.{names_back}
@@ -148,17 +149,6 @@ kind_back roster reads price (kind.Marginal money) range fits =
 cut_back : (roster : Listing) → Reads roster → (cut : Cut) → IsCutInRange cut → cut_in (cut_record cut) ≡ Some cut
 cut_back roster reads cut range = kind_back roster reads cut.price cut.kind range.0 range.1
 
--- a cut is neither an end nor a leg
-no_end : (price : ℕ) (said : CutKind) (behind : List Record) → is_end (cut_record (record { price = price; kind = said })) behind ≡ false
-no_end price kind.TooMuch behind = refl
-no_end price kind.TooLittle behind = refl
-no_end price (kind.Marginal money) behind = refl
-
-no_leg : (roster : Listing) (price : ℕ) (said : CutKind) → leg_in roster (cut_record (record { price = price; kind = said })) ≡ None
-no_leg roster price kind.TooMuch = refl
-no_leg roster price kind.TooLittle = refl
-no_leg roster price (kind.Marginal money) = refl
-
 -- ---- all of them
 
 cuts_back : (roster : Listing) → Reads roster → (cuts : List Cut) → All IsCutInRange cuts
@@ -167,17 +157,15 @@ unfolding cuts_in
 cuts_back roster reads [] range = refl
 cuts_back roster reads (cut ∷ cuts) range =
     rw (
-      no_end cut.price cut.kind (map cut_record cuts ++ end_record ∷ []),
       cut_back roster reads cut (All-head IsCutInRange cut cuts range),
       cuts_back roster reads cuts (All-tail IsCutInRange cut cuts range),
-    )
-    refl
+    ) refl
 
 legs_back : (roster : Listing) → Reads roster → (legs : List Leg) (cuts : List Cut) → All (IsLegInRange roster) legs
     → legs_of roster (map (leg_record roster) legs ++ (map cut_record cuts ++ end_record ∷ [])) ≡ legs
 unfolding legs_of
 legs_back roster reads [] [] range = refl
-legs_back roster reads [] (cut ∷ cuts) range = rw (no_leg roster cut.price cut.kind) refl
+legs_back roster reads [] (cut ∷ cuts) range = refl
 legs_back roster reads (leg ∷ legs) cuts range =
     rw (
       leg_back roster reads leg (All-head (IsLegInRange roster) leg legs range),
@@ -188,7 +176,7 @@ behind_back : (roster : Listing) → Reads roster → (legs : List Leg) (cuts : 
     → behind_legs roster (map (leg_record roster) legs ++ (map cut_record cuts ++ end_record ∷ [])) ≡ map cut_record cuts ++ end_record ∷ []
 unfolding behind_legs
 behind_back roster reads [] [] range = refl
-behind_back roster reads [] (cut ∷ cuts) range = rw (no_leg roster cut.price cut.kind) refl
+behind_back roster reads [] (cut ∷ cuts) range = refl
 behind_back roster reads (leg ∷ legs) cuts range =
     rw (leg_back roster reads leg (All-head (IsLegInRange roster) leg legs range))
     (behind_back roster reads legs cuts (All-tail (IsLegInRange roster) leg legs range))

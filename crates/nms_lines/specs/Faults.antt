@@ -1,7 +1,9 @@
--- Faults: their numbers and codes, and the answer with the first that is found. This product's own rule.
-use Rattle.std.specs.Prelude.{ℕ, Bool, true, false, List, codes, Result, Ok, Err}
+-- Faults: their numbers and codes, where they are, and the answer with the first that is found. This product's own rule.
+use Rattle.std.specs.Prelude.{ℕ, Bool, true, false, List, codes, Option, Some, None, Result, Ok, Err}
+use Rattle.nms_lines.specs.declared.line_fault.FaultPlace.TheVariants as place
 use Rattle.nms_lines.specs.declared.line_fault.LineFault.{LineFault}
 use Rattle.nms_lines.specs.declared.line_fault.LineFault.TheVariants as fault
+use Rattle.nms_lines.specs.declared.line_fault.PlacedFault.{PlacedFault}
 
 -- the number of a fault: of those that hold of a record, the one of least number is answered. The numbers from
 -- 11 to 13 are of faults that no record has
@@ -32,13 +34,36 @@ code_of fault.WrongFeed = codes "L9"
 code_of fault.BadDesk = codes "L10"
 code_of fault.BadLot = codes "L14"
 
+-- a fault of the field after n others
+abbrev pub at : LineFault → ℕ → PlacedFault
+at fault before = record { fault = fault; place = place.Field before }
+
+-- a fault of the record as a whole
+abbrev pub of_record : LineFault → PlacedFault
+of_record fault = record { fault = fault; place = place.Record }
+
+-- what is read, or the fault without its place
+abbrev pub unplaced : {A : Type 0} → Result A PlacedFault → Result A LineFault
+unplaced (Ok x) = Ok x
+unplaced (Err placed) = Err placed.fault
+
 infixl 10 ◌>>=◌
 -- the first fault, from left to right
-abbrev pub ◌>>=◌ : {A B : Type 0} → Result A LineFault → (A → Result B LineFault) → Result B LineFault
+abbrev pub ◌>>=◌ : {A B E : Type 0} → Result A E → (A → Result B E) → Result B E
 (Ok x) >>= f = f x
 (Err e) >>= f = Err e
 
 -- the fault, if something is wrong
-abbrev pub refuse_if : Bool → LineFault → Result (Unit {0}) LineFault
+abbrev pub refuse_if : {E : Type 0} → Bool → E → Result (Unit {0}) E
 refuse_if true fault = Err fault
 refuse_if false fault = Ok tt
+
+-- a fault of the field that is wrong, if one is
+abbrev pub refuse_at : LineFault → Option ℕ → Result (Unit {0}) PlacedFault
+refuse_at fault None = Ok tt
+refuse_at fault (Some before) = Err (at fault before)
+
+-- the field after n others, if it is wrong
+abbrev pub wrong_at : ℕ → Bool → Option ℕ
+wrong_at before true = Some before
+wrong_at before false = None

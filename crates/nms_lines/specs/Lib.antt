@@ -13,9 +13,11 @@ pub mod LineOf
 pub mod Lines
 pub mod Named
 pub mod Numbers
+pub mod PlaceExamples
 pub mod PlanFaults
 pub mod PlanLaws
 pub mod PlanReading
+pub mod PlanRecords
 pub mod PlanText
 pub mod RecordFaults
 pub mod Records

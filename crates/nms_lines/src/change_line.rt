@@ -5,12 +5,11 @@ ghost use Rattle.nms_lines.specs.LineOf.{IsLineOf};
 ghost use Rattle.nms_lines.specs.Lines.{lot_reading, quote_reading, state_reading, withdraw_reading};
 ghost use Rattle.nms_lines.specs.Sources.{brings, is_foreign};
 
-use crate::field::field;
-use crate::letter::state_in;
+use crate::letter::state_at;
 use crate::line::{Kind, Line, Reading};
-use crate::line_fault::LineFault;
+use crate::line_fault::{LineFault, PlacedFault};
 use crate::lot_field::{average_in, lot_in};
-use crate::name::{part_in, symbol_in};
+use crate::name::{part_at, symbol_at};
 use crate::side::sides_in;
 use csv::ByteRecord;
 use nms_quote::{Change, Feed, Roster};
@@ -20,16 +19,16 @@ pub(crate) fn quote_line(
     row: &ByteRecord,
     roster: &Roster,
     from: Reading,
-) -> Result<Line, LineFault>
+) -> Result<Line, PlacedFault>
     ensures line { result ≡ quote_reading roster.now from (fields_of row.now) }
     ensures of { brings from Kind.Quote ≡ true → IfOk result (IsLineOf roster.now from) }
 {
-    let part = part_in(roster, field(row, 1))?;
-    let sym = symbol_in(roster, field(row, 2))?;
-    let state = state_in(field(row, 3))?;
+    let part = part_at(roster, row, 1)?;
+    let sym = symbol_at(roster, row, 2)?;
+    let state = state_at(row, 3)?;
     let (bid, offer) = sides_in(row)?;
     if is_foreign(from, roster.feed_of(part)) {
-        return Err(LineFault::WrongFeed);
+        return Err(PlacedFault::at(LineFault::WrongFeed, 1));
     }
     Ok(Line::Change(Change::Quote {
         part,
@@ -45,15 +44,15 @@ pub(crate) fn state_line(
     row: &ByteRecord,
     roster: &Roster,
     from: Reading,
-) -> Result<Line, LineFault>
+) -> Result<Line, PlacedFault>
     ensures line { result ≡ state_reading roster.now from (fields_of row.now) }
     ensures of { brings from Kind.State ≡ true → IfOk result (IsLineOf roster.now from) }
 {
-    let part = part_in(roster, field(row, 1))?;
-    let sym = symbol_in(roster, field(row, 2))?;
-    let state = state_in(field(row, 3))?;
+    let part = part_at(roster, row, 1)?;
+    let sym = symbol_at(roster, row, 2)?;
+    let state = state_at(row, 3)?;
     if is_foreign(from, roster.feed_of(part)) {
-        return Err(LineFault::WrongFeed);
+        return Err(PlacedFault::at(LineFault::WrongFeed, 1));
     }
     Ok(Line::Change(Change::State { part, sym, state }))
 }
@@ -63,26 +62,30 @@ pub(crate) fn withdraw_line(
     row: &ByteRecord,
     roster: &Roster,
     from: Reading,
-) -> Result<Line, LineFault>
+) -> Result<Line, PlacedFault>
     ensures line { result ≡ withdraw_reading roster.now from (fields_of row.now) }
     ensures of { brings from Kind.Withdraw ≡ true → IfOk result (IsLineOf roster.now from) }
 {
-    let part = part_in(roster, field(row, 1))?;
+    let part = part_at(roster, row, 1)?;
     if is_foreign(from, roster.feed_of(part)) {
-        return Err(LineFault::WrongFeed);
+        return Err(PlacedFault::at(LineFault::WrongFeed, 1));
     }
     Ok(Line::Change(Change::Withdraw { part }))
 }
 
 /// `R,sym,lot`, or `R,sym,AVG,price`: a round lot is of the first feed. The lot is checked last.
-pub(crate) fn lot_line(row: &ByteRecord, roster: &Roster, from: Reading) -> Result<Line, LineFault>
+pub(crate) fn lot_line(
+    row: &ByteRecord,
+    roster: &Roster,
+    from: Reading,
+) -> Result<Line, PlacedFault>
     ensures line { result ≡ lot_reading roster.now from (fields_of row.now) }
     ensures of { brings from Kind.Lot ≡ true → IfOk result (IsLineOf roster.now from) }
 {
-    let sym = symbol_in(roster, field(row, 1))?;
+    let sym = symbol_at(roster, row, 1)?;
     let average = average_in(row)?;
     if is_foreign(from, Feed::A) {
-        return Err(LineFault::WrongFeed);
+        return Err(PlacedFault::at(LineFault::WrongFeed, 0));
     }
     let lot = lot_in(row, average)?;
     Ok(Line::Change(Change::Lot { sym, lot }))

@@ -6,32 +6,35 @@ ghost use Rattle.nms_lines.specs.LineOf.{IsLineOf};
 ghost use Rattle.nms_lines.specs.Lines.{best_reading, sweep_reading, tell_reading, through_reading};
 ghost use Rattle.nms_lines.specs.Sources.{brings, desks_of};
 
-use crate::field::field;
-use crate::letter::{flag_in, side_in};
+use crate::letter::{flag_in, side_at};
 use crate::line::{Kind, Line, Reading};
-use crate::line_fault::LineFault;
-use crate::name::symbol_in;
+use crate::line_fault::PlacedFault;
+use crate::name::symbol_at;
 use crate::named::self_help_in;
-use crate::number::{desk_below, price_in, shares_in};
+use crate::number::{desk_at, price_at, shares_at};
 use csv::ByteRecord;
 use nms_quote::{Order, Roster};
 
 /// `L,desk`
-pub(crate) fn tell_line(row: &ByteRecord, from: Reading) -> Result<Line, LineFault>
+pub(crate) fn tell_line(row: &ByteRecord, from: Reading) -> Result<Line, PlacedFault>
     ensures line { result ≡ tell_reading from (fields_of row.now) }
     ensures of { brings from Kind.Tell ≡ true → (roster : Listing) → IfOk result (IsLineOf roster from) }
 {
-    let desk = desk_below(desks_of(from), field(row, 1))?;
+    let desk = desk_at(desks_of(from), row, 1)?;
     Ok(Line::Tell { desk })
 }
 
 /// `N,desk,sym`
-pub(crate) fn best_line(row: &ByteRecord, roster: &Roster, from: Reading) -> Result<Line, LineFault>
+pub(crate) fn best_line(
+    row: &ByteRecord,
+    roster: &Roster,
+    from: Reading,
+) -> Result<Line, PlacedFault>
     ensures line { result ≡ best_reading roster.now from (fields_of row.now) }
     ensures of { brings from Kind.Best ≡ true → IfOk result (IsLineOf roster.now from) }
 {
-    let sym = symbol_in(roster, field(row, 2))?;
-    let desk = desk_below(desks_of(from), field(row, 1))?;
+    let sym = symbol_at(roster, row, 2)?;
+    let desk = desk_at(desks_of(from), row, 1)?;
     Ok(Line::Best { desk, sym })
 }
 
@@ -40,13 +43,13 @@ pub(crate) fn through_line(
     row: &ByteRecord,
     roster: &Roster,
     from: Reading,
-) -> Result<Line, LineFault>
+) -> Result<Line, PlacedFault>
     ensures line { result ≡ through_reading roster.now from (fields_of row.now) }
     ensures of { brings from Kind.Through ≡ true → IfOk result (IsLineOf roster.now from) }
 {
-    let sym = symbol_in(roster, field(row, 2))?;
-    let price = price_in(field(row, 3))?;
-    let desk = desk_below(desks_of(from), field(row, 1))?;
+    let sym = symbol_at(roster, row, 2)?;
+    let price = price_at(row, 3)?;
+    let desk = desk_at(desks_of(from), row, 1)?;
     Ok(Line::Through { desk, sym, price })
 }
 
@@ -55,17 +58,17 @@ pub(crate) fn sweep_line(
     row: &ByteRecord,
     roster: &Roster,
     from: Reading,
-) -> Result<Line, LineFault>
+) -> Result<Line, PlacedFault>
     ensures line { result ≡ sweep_reading roster.now from (fields_of row.now) }
     ensures of { brings from Kind.Sweep ≡ true → IfOk result (IsLineOf roster.now from) }
 {
     let self_help = self_help_in(row, roster)?;
-    let sym = symbol_in(roster, field(row, 3))?;
-    let side = side_in(field(row, 2))?;
+    let sym = symbol_at(roster, row, 3)?;
+    let side = side_at(row, 2)?;
     let manual = flag_in(row)?;
-    let limit = price_in(field(row, 5))?;
-    let shares = shares_in(field(row, 4))?;
-    let desk = desk_below(desks_of(from), field(row, 1))?;
+    let limit = price_at(row, 5)?;
+    let shares = shares_at(row, 4)?;
+    let desk = desk_at(desks_of(from), row, 1)?;
     let order = Order::new(side, sym, shares, limit, manual, self_help).unwrap();
     Ok(Line::Sweep { desk, order })
 }

@@ -1,18 +1,25 @@
-//! The laws of reading a record and of a plan's text: `specs/Laws`, `specs/PlanLaws` and `specs/TextLaws`. The
+//! The laws of reading a record and of a plan's text: `specs/Laws`, `specs/PlaceExamples`, `specs/PlanLaws` and `specs/TextLaws`. The
 //! functions have no effect: their contracts are the laws.
 ghost use Rattle.std.specs.Prelude.{◌≡◌, ◌<◌, ℕ, List, length, true};
 ghost use Rattle.nms_quote.specs.Roster.{is_part_name, is_symbol_name, part_text, symbol_text};
 ghost use Rattle.nms_lines.specs.Laws.{ReadsLeastFault};
+ghost use Rattle.nms_lines.specs.PlaceExamples.{PlacesHold};
 ghost use Rattle.nms_lines.specs.PlanLaws.{ReadsAsWritten};
 ghost use Rattle.nms_lines.specs.TextLaws.{HasOneList, NeedsNoQuote};
 
 use nms_quote::{Part, Roster, Sym};
 use nms_units::{Money, Price, digits_read_as_printed};
 
-/// A record is read as a fault if and only if that fault is the least that holds, and as a line if none does.
+/// A record is read as a fault if and only if that fault is the least that holds, and as a line if none does. The place of
+/// the fault is where the table of faults has it.
 /// `specs/FaultTable` says when each fault holds.
 pub fn the_least_fault_is_read()
     ensures { ReadsLeastFault }
+{}
+
+/// The worked examples of where a fault is hold.
+pub fn the_worked_places_hold()
+    ensures { PlacesHold }
 {}
 
 /// `read_plan` reads what `write_plan` writes of a plan and its certificate as that plan and certificate, if its

@@ -1,18 +1,18 @@
 //! The fields that are one letter: `specs/Fields`.
 ghost use Rattle.std.specs.Prelude.{◌≡◌};
 ghost use Rattle.csv.specs.Records.{fields_of};
-ghost use Rattle.nms_lines.specs.Fields.{flag_in, flag_named, flag_of, side_in, side_named, state_in, state_named};
+ghost use Rattle.nms_lines.specs.Fields.{flag_in, flag_named, flag_of, side_at, side_named, state_at, state_named};
 
 use crate::field::field;
-use crate::line_fault::LineFault;
+use crate::line_fault::{LineFault, PlacedFault};
 use csv::ByteRecord;
 use nms_quote::{OrderSide, QState};
 
-/// The state of a quotation that a letter names, or `BadState`.
-pub(crate) fn state_in(text: &[u8]) -> Result<QState, LineFault>
-    ensures { result ≡ state_in text.now }
+/// The state of a quotation that a field names, or `BadState`.
+pub(crate) fn state_at(row: &ByteRecord, place: u8) -> Result<QState, PlacedFault>
+    ensures { result ≡ state_at (fields_of row.now) place }
 {
-    state_named(text).ok_or(LineFault::BadState)
+    state_named(field(row, place as usize)).ok_or(PlacedFault::at(LineFault::BadState, place))
 }
 
 fn state_named(text: &[u8]) -> Option<QState>
@@ -26,11 +26,11 @@ fn state_named(text: &[u8]) -> Option<QState>
     }
 }
 
-/// The side of an order that a letter names, or `BadState`.
-pub(crate) fn side_in(text: &[u8]) -> Result<OrderSide, LineFault>
-    ensures { result ≡ side_in text.now }
+/// The side of an order that a field names, or `BadState`.
+pub(crate) fn side_at(row: &ByteRecord, place: u8) -> Result<OrderSide, PlacedFault>
+    ensures { result ≡ side_at (fields_of row.now) place }
 {
-    side_of(text).ok_or(LineFault::BadState)
+    side_of(field(row, place as usize)).ok_or(PlacedFault::at(LineFault::BadState, place))
 }
 
 /// The side of an order that a letter names: `B` or `S`.
@@ -46,10 +46,10 @@ pub fn side_of(text: &[u8]) -> Option<OrderSide>
 
 /// Whether an order's record has the flag that allows manual quotations; `BadState` if its seventh field is something
 /// else. As the last field the flag is not empty.
-pub(crate) fn flag_in(row: &ByteRecord) -> Result<bool, LineFault>
+pub(crate) fn flag_in(row: &ByteRecord) -> Result<bool, PlacedFault>
     ensures { result ≡ flag_in (fields_of row.now) }
 {
-    flag_of(row).ok_or(LineFault::BadState)
+    flag_of(row).ok_or(PlacedFault::at(LineFault::BadState, 6))
 }
 
 fn flag_of(row: &ByteRecord) -> Option<bool>

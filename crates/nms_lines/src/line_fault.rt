@@ -1,6 +1,6 @@
 //! Why a record is refused: `specs/Faults`.
 ghost use Rattle.std.specs.Prelude.{◌≡◌};
-ghost use Rattle.nms_lines.specs.Faults.{code_of};
+ghost use Rattle.nms_lines.specs.Faults.{at, code_of};
 ghost use Rattle.nms_lines.specs.RecordFaults.{refused_status};
 
 use std::fmt;
@@ -31,6 +31,36 @@ pub enum LineFault {
     BadDesk,
     /// L14: a round lot is not 1 to 4 digits, or not from 1 to 1,000.
     BadLot,
+}
+
+/// Where a record is wrong.
+#[derive(Clone, Copy, Debug, PartialEq, Eq)]
+pub enum FaultPlace {
+    /// As a whole: it has another number of fields than its kind.
+    Record,
+    /// In the field after n others.
+    Field(u8),
+}
+
+/// A fault of a record, and where the record has it.
+#[derive(Clone, Copy, Debug, PartialEq, Eq)]
+pub struct PlacedFault {
+    /// The fault.
+    pub fault: LineFault,
+    /// Where it is.
+    pub place: FaultPlace,
+}
+
+impl PlacedFault {
+    /// A fault of the field after n others.
+    pub(crate) fn at(fault: LineFault, place: u8) -> Self
+        ensures { result ≡ at fault place }
+    {
+        PlacedFault {
+            fault,
+            place: FaultPlace::Field(place),
+        }
+    }
 }
 
 impl LineFault {

@@ -2,14 +2,14 @@
 ghost use Rattle.std.specs.Prelude.{◌≡◌, IfOk, true};
 ghost use Rattle.csv.specs.Records.{fields_of};
 ghost use Rattle.nms_lines.specs.LineOf.{IsLineOf};
-ghost use Rattle.nms_lines.specs.Lines.{kind_reading, reading};
+ghost use Rattle.nms_lines.specs.Lines.{kind_reading, placed_reading, reading};
 ghost use Rattle.nms_lines.specs.Sources.{brings};
 
 use crate::change_line::{lot_line, quote_line, state_line, withdraw_line};
 use crate::desk_line::{best_line, sweep_line, tell_line, through_line};
 use crate::kind::{is_count, kind_in};
 use crate::line::{Kind, Line, Reading};
-use crate::line_fault::LineFault;
+use crate::line_fault::{FaultPlace, LineFault, PlacedFault};
 use csv::ByteRecord;
 use nms_quote::Roster;
 
@@ -21,11 +21,25 @@ pub fn read_line(row: &ByteRecord, roster: &Roster, from: Reading) -> Result<Lin
     ensures line { result ≡ reading roster.now from (fields_of row.now) }
     ensures of { IfOk result (IsLineOf roster.now from) }
 {
+    match read_line_at(row, roster, from) {
+        Ok(line) => Ok(line),
+        Err(refused) => Err(refused.fault),
+    }
+}
+
+/// As `read_line`, with the place of the fault: the field that has it, of several the first, or the record as a whole.
+pub fn read_line_at(row: &ByteRecord, roster: &Roster, from: Reading) -> Result<Line, PlacedFault>
+    ensures line { result ≡ placed_reading roster.now from (fields_of row.now) }
+    ensures of { IfOk result (IsLineOf roster.now from) }
+{
     let Some(kind) = kind_in(row, from) else {
-        return Err(LineFault::UnknownKind);
+        return Err(PlacedFault::at(LineFault::UnknownKind, 0));
     };
     if !is_count(kind, row.len()) {
-        return Err(LineFault::FieldCount);
+        return Err(PlacedFault {
+            fault: LineFault::FieldCount,
+            place: FaultPlace::Record,
+        });
     }
     line_of_kind(row, roster, from, kind)
 }
@@ -36,7 +50,7 @@ fn line_of_kind(
     roster: &Roster,
     from: Reading,
     kind: Kind,
-) -> Result<Line, LineFault>
+) -> Result<Line, PlacedFault>
     requires { brings from kind ≡ true }
     ensures line { result ≡ kind_reading roster.now from (fields_of row.now) kind }
     ensures of { IfOk result (IsLineOf roster.now from) }

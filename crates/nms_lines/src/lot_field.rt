@@ -6,33 +6,33 @@ ghost use Rattle.nms_lines.specs.Layout.{has_average};
 ghost use Rattle.nms_lines.specs.Numbers.{lot_number};
 
 use crate::field::{field, is_word};
-use crate::line_fault::LineFault;
-use crate::number::price_in;
+use crate::line_fault::{LineFault, PlacedFault};
+use crate::number::price_at;
 use csv::ByteRecord;
 use nms_units::{Lot, Price, parse_digits};
 
 /// The average closing price of a round lot, if there are four fields. `BadState` if the third is not `AVG`, `BadPrice`
 /// if the fourth is not a price.
-pub(crate) fn average_in(row: &ByteRecord) -> Result<Option<Price>, LineFault>
+pub(crate) fn average_in(row: &ByteRecord) -> Result<Option<Price>, PlacedFault>
     ensures { result ≡ average_in (fields_of row.now) }
 {
     if !has_average(row) {
         return Ok(None);
     }
     if !is_word(field(row, 2), b"AVG") {
-        return Err(LineFault::BadState);
+        return Err(PlacedFault::at(LineFault::BadState, 2));
     }
-    Ok(Some(price_in(field(row, 3))?))
+    Ok(Some(price_at(row, 3)?))
 }
 
 /// The round lot that the average gives (17 CFR 242.600, "round lot"), else the one that the third field
 /// writes, or `BadLot`.
-pub(crate) fn lot_in(row: &ByteRecord, average: Option<Price>) -> Result<Lot, LineFault>
+pub(crate) fn lot_in(row: &ByteRecord, average: Option<Price>) -> Result<Lot, PlacedFault>
     ensures { result ≡ lot_in (fields_of row.now) average }
 {
     match average {
         Some(price) => Ok(Lot::by_average(price)),
-        None => lot_of(field(row, 2)).ok_or(LineFault::BadLot),
+        None => lot_of(field(row, 2)).ok_or(PlacedFault::at(LineFault::BadLot, 2)),
     }
 }
 

@@ -5,7 +5,7 @@ ghost use Rattle.nms_lines.specs.Fields.{self_help_in};
 ghost use Rattle.nms_lines.specs.Named.{AreBelow, named_at, named_in};
 
 use crate::field::field;
-use crate::line_fault::LineFault;
+use crate::line_fault::{LineFault, PlacedFault};
 use csv::ByteRecord;
 use nms_quote::{PartSet, Roster};
 
@@ -38,9 +38,9 @@ pub(crate) fn named_at(row: &ByteRecord, place: usize, roster: &Roster) -> Optio
 }
 
 /// The participants that an order's record names in its eighth field, if it has one, or `UnknownParticipant`.
-pub(crate) fn self_help_in(row: &ByteRecord, roster: &Roster) -> Result<PartSet, LineFault>
+pub(crate) fn self_help_in(row: &ByteRecord, roster: &Roster) -> Result<PartSet, PlacedFault>
     ensures set { result ≡ self_help_in roster.now (fields_of row.now) }
     ensures there { IfOk result (AreBelow (length roster.now.parts)) }
 {
-    named_at(row, 7, roster).ok_or(LineFault::UnknownParticipant)
+    named_at(row, 7, roster).ok_or(PlacedFault::at(LineFault::UnknownParticipant, 7))
 }

@@ -1,10 +1,13 @@
 //! The fields that are numbers: `specs/Fields`.
 ghost use Rattle.std.specs.Prelude.{◌≡◌, ◌<◌, ◌≤◌, IfOk, IfSome};
-ghost use Rattle.nms_lines.specs.Fields.{desk_below, price_in, shares_in};
+ghost use Rattle.csv.specs.Records.{fields_of};
+ghost use Rattle.nms_lines.specs.Fields.{desk_at, price_at, shares_at};
 ghost use Rattle.nms_lines.specs.Numbers.{above_zero, shares_number};
 ghost use Rattle.nms_units.specs.Price.{price_number};
 
-use crate::line_fault::LineFault;
+use crate::field::field;
+use crate::line_fault::{LineFault, PlacedFault};
+use csv::ByteRecord;
 use nms_units::{Price, Shares, parse_digits};
 
 /// The price that a text is, in 1/10,000 dollar; never zero.
@@ -25,28 +28,28 @@ pub fn some_shares_of(text: &[u8]) -> Option<Shares>
     }
 }
 
-/// The price that an order or a trade-through test needs, or `BadPrice`.
-pub(crate) fn price_in(text: &[u8]) -> Result<Price, LineFault>
-    ensures { result ≡ price_in text.now }
+/// The price that an order, a trade-through test or a round lot needs, or `BadPrice`.
+pub(crate) fn price_at(row: &ByteRecord, place: u8) -> Result<Price, PlacedFault>
+    ensures { result ≡ price_at (fields_of row.now) place }
 {
-    price_of(text).ok_or(LineFault::BadPrice)
+    price_of(field(row, place as usize)).ok_or(PlacedFault::at(LineFault::BadPrice, place))
 }
 
 /// The shares of an order, at least one, or `BadShares`.
-pub(crate) fn shares_in(text: &[u8]) -> Result<Shares, LineFault>
-    ensures shares { result ≡ shares_in text.now }
+pub(crate) fn shares_at(row: &ByteRecord, place: u8) -> Result<Shares, PlacedFault>
+    ensures shares { result ≡ shares_at (fields_of row.now) place }
     ensures some { IfOk result (λ shares. 1 ≤ shares) }
 {
-    some_shares_of(text).ok_or(LineFault::BadShares)
+    some_shares_of(field(row, place as usize)).ok_or(PlacedFault::at(LineFault::BadShares, place))
 }
 
 /// The desk that 1 or 2 digits name, if there is one of that number, or `BadDesk`.
-pub(crate) fn desk_below(desks: u8, text: &[u8]) -> Result<u8, LineFault>
-    ensures desk { result ≡ desk_below desks text.now }
+pub(crate) fn desk_at(desks: u8, row: &ByteRecord, place: u8) -> Result<u8, PlacedFault>
+    ensures desk { result ≡ desk_at desks (fields_of row.now) place }
     ensures there { IfOk result (λ desk. desk < desks) }
 {
-    match parse_digits(text, 2) {
+    match parse_digits(field(row, place as usize), 2) {
         Some(desk) if desk < u64::from(desks) => Ok(desk as u8),
-        _ => Err(LineFault::BadDesk),
+        _ => Err(PlacedFault::at(LineFault::BadDesk, place)),
     }
 }

@@ -4,7 +4,8 @@ ghost use Rattle.csv.specs.Records.{fields_of};
 ghost use Rattle.nms_lines.specs.Layout.{Record};
 ghost use Rattle.nms_lines.specs.Left.{AreLeft};
 ghost use Rattle.nms_lines.specs.Named.{AreBelow};
-ghost use Rattle.nms_lines.specs.PlanReading.{behind_legs, cuts_in, head_in, is_few, legs_of, plan_in, said_by};
+ghost use Rattle.nms_lines.specs.PlanReading.{behind_legs, cuts_in, is_few, legs_of, plan_in, said_by};
+ghost use Rattle.nms_lines.specs.PlanRecords.{head_in};
 ghost use Rattle.nms_lines.specs.Records.{AreAllRecords};
 
 use crate::plan_record::{PlanHead, cut_in, head_in, is_end, leg_in};
@@ -110,7 +111,7 @@ fn read_head<R: Read>(
     ensures faults { result ≢ Err PlanTextFault.WriteFault }
 {
     need_row(reader, row)?;
-    head_in(row, roster).ok_or(PlanTextFault::BadPlanText)
+    head_in(row, roster).ok().ok_or(PlanTextFault::BadPlanText)
 }
 
 /// Reads the legs, and the record after them into the row.
@@ -130,7 +131,7 @@ fn read_legs<R: Read>(
     // one turn for each leg, and one for what comes after them
     for _ in 0_usize..33 {
         need_row(reader, row)?;
-        let Some(leg) = leg_in(row, roster) else {
+        let Some(leg) = leg_in(row, roster).ok() else {
             return Ok(legs);
         };
         if legs.try_push(leg).is_err() {
@@ -158,7 +159,7 @@ fn read_cuts<R: Read>(
             need_end(reader, row)?;
             return Ok(cuts);
         }
-        let Some(cut) = cut_in(row) else {
+        let Some(cut) = cut_in(row).ok() else {
             return Err(PlanTextFault::BadPlanText);
         };
         if cuts.try_push(cut).is_err() {

@@ -1,19 +1,33 @@
-//! The records of a plan's text, one by one: `specs/PlanReading`.
-ghost use Rattle.std.specs.Prelude.{◌≡◌, ◌<◌, IfSome, codes, length};
+//! The records of a plan's text, one by one: `specs/PlanRecords`.
+ghost use Rattle.std.specs.Prelude.{◌≡◌, ◌<◌, IfOk, is_ok, length};
 ghost use Rattle.csv.specs.Records.{fields_of};
 ghost use Rattle.nms_lines.specs.Named.{AreBelow};
 ghost use Rattle.nms_lines.specs.Numbers.{shares_number};
-ghost use Rattle.nms_lines.specs.PlanReading.{cut_in, head_by_order, is_plan, is_record, kind_in, leg_in, order_in, without_value};
+ghost use Rattle.nms_lines.specs.PlanRecords.{begun, cut_reading, end_reading, head_reading, kind_said, leg_reading, without_value, wrong_as};
 ghost use Rattle.nms_units.specs.Money.{money_number};
 
 use crate::field::{field, is_word};
 use crate::letter::{flag_named, side_of};
+use crate::line_fault::FaultPlace;
 use crate::named::named_at;
 use crate::number::{price_of, some_shares_of};
 use csv::ByteRecord;
 use nms_quote::{Cut, CutKind, Leg, Order, Roster};
 use nms_units::{Money, Shares, parse_digits};
 use std::marker::Model;
+
+/// The records of a plan's text.
+#[derive(Clone, Copy)]
+pub enum PlanRecord {
+    /// `PLAN`: the plan, without its legs.
+    Plan,
+    /// `LEG`: a part of it.
+    Leg,
+    /// `CUT`: a cut of its certificate.
+    Cut,
+    /// `END`.
+    End,
+}
 
 /// What the record of a plan says.
 #[derive(Drop)]
@@ -25,132 +39,121 @@ pub(crate) struct PlanHead {
 }
 
 impl Model for PlanHead {
-    ghost use Rattle.nms_lines.specs.PlanReading.{Head};
+    ghost use Rattle.nms_lines.specs.PlanRecords.{Head};
 
     ghost Value = { Head };
 
     ghost view = { λ h. record { version = h.version; order = h.order; filled = h.filled; cost = h.cost } };
 }
 
-/// What the record of a plan says, if the row is one.
-pub(crate) fn head_in(row: &ByteRecord, roster: &Roster) -> Option<PlanHead>
-    ensures head { result ≡ head_by_order roster.now (fields_of row.now) }
-    ensures there { IfSome result (λ head. head.order.sym < length roster.now.syms) }
-    ensures named { IfSome result (λ head. AreBelow (length roster.now.parts) head.order.self_help) }
+/// Where a record is wrong as one of that sort: its first word, the number of its fields, or the first field that a plan can't
+/// have. None if it is read.
+pub fn wrong_place(sort: PlanRecord, row: &ByteRecord, roster: &Roster) -> Option<FaultPlace>
+    ensures { result ≡ wrong_as sort roster.now (fields_of row.now) }
 {
-    if !is_plan(row) {
-        return None;
-    }
-    match (
-        parse_digits(field(row, 1), 8),
-        order_in(row, roster),
-        shares_in(field(row, 7)),
-        money_in(field(row, 8)),
-    ) {
-        (Some(version), Some(order), Some(filled), Some(cost)) => Some(PlanHead {
-            version,
-            order,
-            filled: filled.get(),
-            cost,
-        }),
-        _ => None,
+    match sort {
+        PlanRecord::Plan => head_in(row, roster).err(),
+        PlanRecord::Leg => leg_in(row, roster).err(),
+        PlanRecord::Cut => match cut_in(row) {
+            Ok(_) => None,
+            Err(place) => Some(place),
+        },
+        PlanRecord::End => end_in(row).err(),
     }
 }
 
-/// What the order of a plan asks for, if its fields say that.
-fn order_in(row: &ByteRecord, roster: &Roster) -> Option<Order>
-    ensures order { result ≡ order_in roster.now (fields_of row.now) }
-    ensures there { IfSome result (λ order. order.sym < length roster.now.syms) }
-    ensures named { IfSome result (λ order. AreBelow (length roster.now.parts) order.self_help) }
+/// What the record of a plan says, if the row is one.
+pub(crate) fn head_in(row: &ByteRecord, roster: &Roster) -> Result<PlanHead, FaultPlace>
+    ensures head { result ≡ head_reading roster.now (fields_of row.now) }
+    ensures there { IfOk result (λ head. head.order.sym < length roster.now.syms) }
+    ensures named { IfOk result (λ head. AreBelow (length roster.now.parts) head.order.self_help) }
 {
-    match (
-        side_of(field(row, 2)),
-        roster.find_sym(field(row, 3)),
-        some_shares_of(field(row, 4)),
-        price_of(field(row, 5)),
-        flag_named(field(row, 6)),
-        named_at(row, 9, roster),
-    ) {
-        (Some(side), Some(sym), Some(shares), Some(limit), Some(manual), Some(self_help)) => {
-            Order::new(side, sym, shares, limit, manual, self_help)
-        }
-        _ => None,
-    }
+    begin(row, b"PLAN", row.len() == 9 || row.len() == 10)?;
+    let version = parse_digits(field(row, 1), 8).ok_or(FaultPlace::Field(1))?;
+    let side = side_of(field(row, 2)).ok_or(FaultPlace::Field(2))?;
+    let sym = roster.find_sym(field(row, 3)).ok_or(FaultPlace::Field(3))?;
+    let shares = some_shares_of(field(row, 4)).ok_or(FaultPlace::Field(4))?;
+    let limit = price_of(field(row, 5)).ok_or(FaultPlace::Field(5))?;
+    let manual = flag_named(field(row, 6)).ok_or(FaultPlace::Field(6))?;
+    let filled = shares_in(field(row, 7)).ok_or(FaultPlace::Field(7))?;
+    let cost = money_in(field(row, 8)).ok_or(FaultPlace::Field(8))?;
+    let self_help = named_at(row, 9, roster).ok_or(FaultPlace::Field(9))?;
+    Ok(PlanHead {
+        version,
+        order: Order::new(side, sym, shares, limit, manual, self_help).unwrap(),
+        filled: filled.get(),
+        cost,
+    })
 }
 
 /// The leg that the row is, if it is one.
-pub(crate) fn leg_in(row: &ByteRecord, roster: &Roster) -> Option<Leg>
-    ensures leg { result ≡ leg_in roster.now (fields_of row.now) }
-    ensures there { IfSome result (λ leg. leg.part < length roster.now.parts) }
+pub(crate) fn leg_in(row: &ByteRecord, roster: &Roster) -> Result<Leg, FaultPlace>
+    ensures leg { result ≡ leg_reading roster.now (fields_of row.now) }
+    ensures there { IfOk result (λ leg. leg.part < length roster.now.parts) }
 {
-    if !is_record(row, b"LEG", 4) {
-        return None;
-    }
-    match (
-        roster.find_part(field(row, 1)),
-        price_of(field(row, 2)),
-        shares_in(field(row, 3)),
-    ) {
-        (Some(part), Some(price), Some(shares)) => Some(Leg {
-            part,
-            price,
-            shares,
-        }),
-        _ => None,
-    }
+    begin(row, b"LEG", row.len() == 4)?;
+    let part = roster.find_part(field(row, 1)).ok_or(FaultPlace::Field(1))?;
+    let price = price_of(field(row, 2)).ok_or(FaultPlace::Field(2))?;
+    let shares = shares_in(field(row, 3)).ok_or(FaultPlace::Field(3))?;
+    Ok(Leg {
+        part,
+        price,
+        shares,
+    })
 }
 
 /// The cut that the row is, if it is one.
-pub(crate) fn cut_in(row: &ByteRecord) -> Option<Cut>
-    ensures { result ≡ cut_in (fields_of row.now) }
+pub(crate) fn cut_in(row: &ByteRecord) -> Result<Cut, FaultPlace>
+    ensures { result ≡ cut_reading (fields_of row.now) }
 {
-    if !is_record(row, b"CUT", 4) {
-        return None;
-    }
-    match (
-        price_of(field(row, 1)),
-        kind_in(field(row, 2), field(row, 3)),
-    ) {
-        (Some(price), Some(kind)) => Some(Cut { price, kind }),
-        _ => None,
-    }
-}
-
-/// Whether the row is the record of a plan, with a field of participants named or without one.
-fn is_plan(row: &ByteRecord) -> bool
-    ensures { result ≡ is_plan (fields_of row.now) }
-{
-    is_record(row, b"PLAN", 9) || is_record(row, b"PLAN", 10)
+    begin(row, b"CUT", row.len() == 4)?;
+    let price = price_of(field(row, 1)).ok_or(FaultPlace::Field(1))?;
+    let kind = kind_in(field(row, 2), field(row, 3))?;
+    Ok(Cut { price, kind })
 }
 
 /// Whether the row is the end.
 pub(crate) fn is_end(row: &ByteRecord) -> bool
-    ensures { result ≡ is_record (codes "END") 1 (fields_of row.now) }
+    ensures { result ≡ is_ok (end_reading (fields_of row.now)) }
 {
-    is_record(row, b"END", 1)
+    end_in(row).is_ok()
 }
 
-/// Whether the row is a record of that word and of `count` fields.
-fn is_record(row: &ByteRecord, word: &[u8], count: usize) -> bool
-    ensures { result ≡ is_record word.now count (fields_of row.now) }
+/// The end, if the row is it.
+fn end_in(row: &ByteRecord) -> Result<(), FaultPlace>
+    ensures { result ≡ end_reading (fields_of row.now) }
 {
-    row.len() == count && is_word(field(row, 0), word)
+    begin(row, b"END", row.len() == 1)
+}
+
+/// Tests the first word of a row, and then whether it has as many fields as it must.
+fn begin(row: &ByteRecord, word: &[u8], is_counted: bool) -> Result<(), FaultPlace>
+    ensures { result ≡ begun word.now is_counted (fields_of row.now) }
+{
+    if !is_word(field(row, 0), word) {
+        return Err(FaultPlace::Field(0));
+    }
+    if !is_counted {
+        return Err(FaultPlace::Record);
+    }
+    Ok(())
 }
 
 /// What a cut says.
-fn kind_in(word: &[u8], value: &[u8]) -> Option<CutKind>
-    ensures { result ≡ kind_in word.now value.now }
+fn kind_in(word: &[u8], value: &[u8]) -> Result<CutKind, FaultPlace>
+    ensures { result ≡ kind_said word.now value.now }
 {
     if is_word(word, b"TOOMUCH") {
-        return without_value(value, CutKind::TooMuch);
+        return without_value(value, CutKind::TooMuch).ok_or(FaultPlace::Field(3));
     }
     if is_word(word, b"TOOLITTLE") {
-        return without_value(value, CutKind::TooLittle);
+        return without_value(value, CutKind::TooLittle).ok_or(FaultPlace::Field(3));
     }
     if !is_word(word, b"MARGINAL") {
-        return None;
+        return Err(FaultPlace::Field(2));
     }
-    Some(CutKind::Marginal(money_in(value)?))
+    let money = money_in(value).ok_or(FaultPlace::Field(3))?;
+    Ok(CutKind::Marginal(money))
 }
 
 /// What a cut says with an empty field after it.

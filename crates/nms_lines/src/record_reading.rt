@@ -26,6 +26,17 @@ pub fn open_records<R: Read>(alloc: Global, source: R) -> Reader<R>
         .from_reader(alloc, source)
 }
 
+/// A row with room for a record of usual length: 64 fields, and 1,024 bytes. A row without room grows by doubling, and the reader
+/// then takes most records in two parts. Without memory for it the row has no room, and takes it as it grows.
+pub fn open_row(alloc: Global) -> ByteRecord
+    ensures { fields_of result ≡ [] }
+{
+    match ByteRecord::with_capacity(alloc, 1024, 64) {
+        Ok(row) => row,
+        Err(_) => ByteRecord::new(alloc),
+    }
+}
+
 /// As `open_records`, with an empty header row set before the first read. So the reader looks for no header and keeps
 /// no copy of the first record. Then no read takes memory if the row has room for what it reads.
 pub(crate) fn open_bare_records<R: Read + Drop>(

@@ -1,12 +1,14 @@
 //! The two sides of a quotation: `specs/Sides`.
-ghost use Rattle.std.specs.Prelude.{◌≡◌};
+ghost use Rattle.std.specs.Prelude.{◌≡◌, ◌<◌, ◌+◌};
+ghost use Rattle.std.specs.Option.{option_or};
 ghost use Rattle.nms_units.specs.Price.{price_number};
 ghost use Rattle.csv.specs.Records.{fields_of};
+ghost use Rattle.nms_lines.specs.Faults.{wrong_at};
 ghost use Rattle.nms_lines.specs.Numbers.{is_zero, shares_number};
-ghost use Rattle.nms_lines.specs.Sides.{sides_in, is_unfit, is_bad_price, is_bad_shares, is_half, side_content, side_word};
+ghost use Rattle.nms_lines.specs.Sides.{half_at, is_bad_price, is_bad_shares, is_half, is_unfit, side_content, side_word, sides_in};
 
 use crate::field::field;
-use crate::line_fault::LineFault;
+use crate::line_fault::{LineFault, PlacedFault};
 use crate::number::{price_of, some_shares_of};
 use csv::ByteRecord;
 use nms_quote::{Side, SideQuote};
@@ -15,7 +17,7 @@ use nms_units::{Price, Shares, UnitFault};
 /// The bid and the offer of a record, or the fault of least number on either. Two quotes have no fault.
 pub(crate) fn sides_in(
     row: &ByteRecord,
-) -> Result<(Option<SideQuote>, Option<SideQuote>), LineFault>
+) -> Result<(Option<SideQuote>, Option<SideQuote>), PlacedFault>
     ensures { result ≡ sides_in (fields_of row.now) }
 {
     let bid = quote_in(field(row, 4), field(row, 5));
@@ -30,24 +32,57 @@ pub(crate) fn sides_in(
 /// The bid and the offer of a record, if a side may have no quote.
 #[cold]
 #[inline(never)]
-fn other_sides_in(row: &ByteRecord) -> Result<(Option<SideQuote>, Option<SideQuote>), LineFault>
+fn other_sides_in(row: &ByteRecord) -> Result<(Option<SideQuote>, Option<SideQuote>), PlacedFault>
     ensures { result ≡ sides_in (fields_of row.now) }
 {
     let (bid, bid_shares) = (field(row, 4), field(row, 5));
     let (offer, offer_shares) = (field(row, 6), field(row, 7));
-    let bad_price = is_bad_price(bid, bid_shares) || is_bad_price(offer, offer_shares);
-    if bad_price {
-        return Err(LineFault::BadPrice);
+    let bad_price = first_at(
+        4,
+        is_bad_price(bid, bid_shares),
+        is_bad_price(offer, offer_shares),
+    );
+    if let Some(place) = bad_price {
+        return Err(PlacedFault::at(LineFault::BadPrice, place));
     }
-    let bad_shares = is_bad_shares(bid_shares) || is_bad_shares(offer_shares);
-    if bad_shares {
-        return Err(LineFault::BadShares);
+    let bad_shares = first_at(5, is_bad_shares(bid_shares), is_bad_shares(offer_shares));
+    if let Some(place) = bad_shares {
+        return Err(PlacedFault::at(LineFault::BadShares, place));
     }
-    let half = is_half(bid, bid_shares) || is_half(offer, offer_shares);
-    if half {
-        return Err(LineFault::HalfSide);
+    let half = half_at(4, bid, bid_shares).or(half_at(6, offer, offer_shares));
+    if let Some(place) = half {
+        return Err(PlacedFault::at(LineFault::HalfSide, place));
     }
     Ok((quote_in(bid, bid_shares), quote_in(offer, offer_shares)))
+}
+
+/// The bid's field if it is wrong, which stands after n others, or else the offer's, two further.
+fn first_at(before: u8, is_bid: bool, is_offer: bool) -> Option<u8>
+    requires { before < 8 }
+    ensures { result ≡ option_or (wrong_at before is_bid) (wrong_at (before + 2) is_offer) }
+{
+    if is_bid {
+        return Some(before);
+    }
+    if is_offer {
+        return Some(before + 2);
+    }
+    None
+}
+
+/// The field that is empty beside one that is not, of a side whose price stands after n fields.
+fn half_at(before: u8, price_text: &[u8], shares_text: &[u8]) -> Option<u8>
+    requires { before < 8 }
+    ensures { result ≡ half_at before price_text.now shares_text.now }
+{
+    if !is_half(price_text, shares_text) {
+        return None;
+    }
+    Some(if price_text.is_empty() {
+        before
+    } else {
+        before + 1
+    })
 }
 
 /// The quote of a price and at least one share.
@@ -60,14 +95,14 @@ fn quote_in(price_text: &[u8], shares_text: &[u8]) -> Option<SideQuote>
 }
 
 /// Whether a price that is there is not of the form, or is zero beside shares that do not read as 0.
-pub fn is_bad_price(price_text: &[u8], shares_text: &[u8]) -> bool
+fn is_bad_price(price_text: &[u8], shares_text: &[u8]) -> bool
     ensures { result ≡ is_bad_price price_text.now shares_text.now }
 {
     !price_text.is_empty() && is_unfit(price_text, shares_text)
 }
 
 /// Whether shares that are there are not of the form.
-pub fn is_bad_shares(text: &[u8]) -> bool
+fn is_bad_shares(text: &[u8]) -> bool
     ensures { result ≡ is_bad_shares text.now }
 {
     !text.is_empty() && Shares::parse(text).is_err()

@@ -15,7 +15,7 @@ use crate::given::{Means, text_of};
 use crate::live_fault::LiveFault;
 use nms_feed::{MOST_SENT, Sender};
 use nms_fees::Setup;
-use nms_lines::{ByteRecord, Reader, open_records, read_feed_change, read_next};
+use nms_lines::{ByteRecord, Reader, open_records, open_row, read_feed_change, read_next};
 use nms_quote::{Change, Feed, Roster, SideQuote};
 use nms_units::Lot;
 use std::snapshot::Snapshot;
@@ -79,7 +79,7 @@ fn send_all<R: Wait, G: Gate>(
     ensures refused { IfErr result (IsFeedFault setup.now.roster feed text.now) }
 {
     let mut reader = open_records(means.alloc, text);
-    let mut row = ByteRecord::new(means.alloc);
+    let mut row = open_row(means.alloc);
     send_rows(means, setup, feed, &mut reader, &mut row, sender)
 }
 

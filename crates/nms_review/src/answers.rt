@@ -5,7 +5,7 @@ use std::io::Write;
 
 /// The most bytes that are kept back.
 const ROOM: usize = 65_536;
-/// Whole lines are written out once there are n bytes.
+/// Whole lines are written out once there are at least this number of bytes.
 const ENOUGH: usize = 49_152;
 /// Removes the line of progress on the terminal.
 pub(crate) const ERASE: &str = "\r\x1b[K";

@@ -15,7 +15,7 @@ use crate::counts::Counts;
 use crate::script_record::serve;
 use nms_fees::Setup;
 use nms_flow::Flow;
-use nms_lines::{ByteRecord, Reader, RecordFault, open_records, read_next};
+use nms_lines::{ByteRecord, Reader, RecordFault, open_records, open_row, read_next};
 use nms_sweep::Planner;
 use nms_text::{ScriptFault, tell};
 use std::alloc::Global;
@@ -100,7 +100,7 @@ fn open(alloc: Global, setup: &Setup) -> Result<Script, ScriptFault>
     Ok(Script {
         flow,
         planner: Planner::new(),
-        row: ByteRecord::new(alloc),
+        row: open_row(alloc),
         answer: Vec::new(alloc),
     })
 }

@@ -24,7 +24,7 @@ mod voice;
 mod watcher;
 mod watching;
 
-/// The most changes of a batch: the taker publishes after n, or when none is waiting. This product's own rule.
+/// The most changes of a batch: the taker publishes after this number of changes, or when none is waiting. This product's own rule.
 pub const MOST_BATCH: u64 = 64;
 
 /// The most epochs after the first: 2^32. This product's own rule.

@@ -152,7 +152,7 @@ impl SafeText {
         kept(&mut self.text, had, written)
     }
 
-    /// Gives the text to a writer, and begins anew. It is not flushed.
+    /// Gives the text to a writer, and begins again with none. It is not flushed.
     ///
     /// `WriteFault`, the one fault, leaves a prefix of the text written.
     #[tactic(auto, using(crate::proofs::PlainFacts::safe_none))]
@@ -171,7 +171,7 @@ impl SafeText {
     }
 }
 
-/// Takes back what a call added that failed: what stands after the first bytes. In memory a write fails for want of memory alone.
+/// Takes back what a call added that failed. In memory a write only fails if memory runs out.
 #[tactic(auto, using(crate::proofs::PlainFacts::safe_more, crate::proofs::PlainFacts::cut_back))]
 fn kept(text: &mut Vec<u8>, had: usize, written: Result<(), ShowFault>) -> Result<(), AllocError>
     ensures kept { (was : List ℕ) → had ≡ length was → Writes IsSafe (Some was) (Some text.old.items) written

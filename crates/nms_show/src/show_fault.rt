@@ -6,7 +6,7 @@ use thiserror::Error;
 /// Why an answer was not printed. Earlier output remains.
 #[derive(Clone, Copy, Debug, PartialEq, Eq, Error)]
 pub enum ShowFault {
-    /// E2: the writer failed. A first part of the answer was written.
+    /// E2: the writer failed. A prefix of the answer was written.
     WriteFault,
     /// E4: out of memory. Nothing of the line was written.
     NoMemory,

@@ -14,9 +14,9 @@ pub enum StreamFault {
     Changes(ChangesFault),
     /// B1: no board was made. Nothing was written.
     Board(BoardFault),
-    /// E2: the writer failed. A first part of the stream was written, and nothing else.
+    /// E2: the writer failed. A prefix of the stream was written, and nothing else.
     WriteFault,
-    /// E4: out of memory. A first part of the stream was written, possibly none, and nothing else.
+    /// E4: out of memory. A prefix of the stream was written, possibly none, and nothing else.
     NoMemory,
 }
 

@@ -10,7 +10,7 @@ use thiserror::Error;
 pub enum TextFault {
     /// L12: there was no memory for the text. Nothing was written.
     NoMemory,
-    /// L13: the writer failed. A first part of the text was written, and nothing else.
+    /// L13: the writer failed. A prefix of the text was written, and nothing else.
     WriteFault,
 }
 

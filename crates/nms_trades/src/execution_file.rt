@@ -12,7 +12,7 @@ use crate::execution::Execution;
 use crate::reading::read_execution;
 use crate::trade_fault::TradeFault;
 use crate::trades_fault::TradesFault;
-use nms_lines::{ByteRecord, Reader, RecordFault, open_records, read_next};
+use nms_lines::{ByteRecord, Reader, RecordFault, open_records, open_row, read_next};
 use nms_quote::Roster;
 use nms_show::Ending;
 use std::alloc::Global;
@@ -63,7 +63,7 @@ pub(crate) fn read_executions<R: Read + Drop>(
     ensures refused { IfErr result (IsReadingFault (R.remaining source)) }
 {
     let mut reader = open_records(alloc, source);
-    let mut row = ByteRecord::new(alloc);
+    let mut row = open_row(alloc);
     let mut records = Records {
         executions: Vec::new(alloc),
         refused: Vec::new(alloc),

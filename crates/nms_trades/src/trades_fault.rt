@@ -28,7 +28,7 @@ pub enum TradesFault {
     Board(BoardFault),
     /// E3: there are more than 10,000,000 executions. Nothing was written.
     TooLong,
-    /// E2 or E4: the output could not be written, or memory ran out. A first part of it may have been written.
+    /// E2 or E4: the output could not be written, or memory ran out. A prefix of it may have been written.
     Show(ShowFault),
 }
 

@@ -52,7 +52,7 @@ more_names Live =
     codes "FEED_B" ∷ codes "FEED_C" ∷ codes "FEED_D" ∷ codes "FEED_E" ∷ codes "FEED_F" ∷ codes "FEED_G" ∷ codes "FEED_H" ∷ []
 more_names _ = []
 
--- a subcommand may have n own words
+-- a subcommand may have this number of words of its own
 abbrev pub AreCounted : Sub → ℕ → Type 0
 AreCounted sub count = (length (own_names sub) ≤ count) × (count ≤ length (own_names sub) + length (more_names sub))
 

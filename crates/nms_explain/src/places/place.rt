@@ -1,4 +1,4 @@
-//! Places in a record: `specs/Looks`.
+//! A field of a record.
 ghost use Rattle.std.specs.Prelude.{◌≡◌};
 
 use super::field_name::FieldName;
@@ -19,13 +19,4 @@ impl FieldPlace {
     {
         FieldPlace { place, name }
     }
-}
-
-/// What a fault of a record is about.
-#[derive(Clone, Copy)]
-pub(crate) enum Place {
-    /// The record as a whole: it has another number of fields than its kind.
-    Count,
-    /// One of its fields.
-    Field(FieldPlace),
 }

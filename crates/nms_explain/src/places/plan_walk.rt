@@ -1,16 +1,12 @@
 //! A walk over the records of a plan's text: which record is due, and what is wrong with the one that came
-//! (`specs/PlanFields`, `specs/PlanOrder`).
+//! (`specs/PlanOrder`).
 ghost use Rattle.std.specs.Prelude.{◌≡◌, ◌+◌, ◌++◌, ◌∷◌, [], List, Some, None, min};
 ghost use Rattle.csv.specs.Records.{fields_of};
 ghost use Rattle.nms_lines.specs.Layout.{Record};
-ghost use Rattle.nms_explain.specs.PlanFields.{due_place, later_place};
-ghost use Rattle.nms_explain.specs.PlanOrder.{HasPassed, count_next, due_next, trouble_after};
+ghost use Rattle.nms_explain.specs.PlanOrder.{HasPassed, count_next, due_next, due_place, record_due, trouble_after};
 
-use super::field_name::FieldName;
-use super::place::{FieldPlace, Place};
-use super::plan_place::{cut_place, end_place, head_place, leg_place};
 use super::record_field::text_at;
-use nms_lines::ByteRecord;
+use nms_lines::{ByteRecord, FaultPlace, PlanRecord, wrong_place};
 use nms_quote::Roster;
 
 /// How many legs a plan has at most, and how many cuts.
@@ -33,7 +29,7 @@ pub(crate) enum PlanDue {
 #[derive(Clone, Copy)]
 pub(crate) enum PlanTrouble {
     /// It is not due, or a plan can't have one of its fields.
-    Wrong(Place),
+    Wrong(FaultPlace),
     /// It is the 33rd leg, or the 33rd cut.
     TooMany,
 }
@@ -61,7 +57,7 @@ impl PlanWalk {
 
     /// What is wrong with the next record. The walk then goes on after it, by its first word.
     pub(crate) fn next(&mut self, row: &ByteRecord, roster: &Roster) -> Option<PlanTrouble>
-        ensures wrong { (at : Place) → result ≡ Some (PlanTrouble.Wrong at)
+        ensures wrong { (at : FaultPlace) → result ≡ Some (PlanTrouble.Wrong at)
             → due_place self.old.due roster.now (fields_of row.now) ≡ Some at }
         ensures right { result ≡ None → due_place self.old.due roster.now (fields_of row.now) ≡ None }
         ensures trouble { (before : List Record) → HasPassed before self.old
@@ -107,25 +103,31 @@ fn one_more(count: u8) -> u8
     if count < MOST { count + 1 } else { MOST + 1 }
 }
 
-/// What is wrong with a record if that is due.
-fn due_place(due: PlanDue, row: &ByteRecord, roster: &Roster) -> Option<Place>
+/// Where a record is wrong if that is due.
+fn due_place(due: PlanDue, row: &ByteRecord, roster: &Roster) -> Option<FaultPlace>
     ensures { result ≡ due_place due roster.now (fields_of row.now) }
 {
-    match due {
-        PlanDue::Plan => head_place(row, roster),
-        PlanDue::Leg => later_place(row, leg_place(row, roster)),
-        PlanDue::Cut => later_place(row, cut_place(row)),
-        PlanDue::Nothing => Some(Place::Field(FieldPlace::at(0, FieldName::Kind))),
+    match record_due(due, text_at(row, 0)) {
+        Some(sort) => wrong_place(sort, row, roster),
+        None => Some(FaultPlace::Field(0)),
     }
 }
 
-/// What is wrong with an end or a cut if its word says so, else what is wrong with a record of another word.
-fn later_place(row: &ByteRecord, other: Option<Place>) -> Option<Place>
-    ensures { result ≡ later_place (fields_of row.now) other }
+/// As which record one that begins with the word is read, by what is due; none after the end.
+pub(crate) fn record_due(due: PlanDue, word: &[u8]) -> Option<PlanRecord>
+    ensures { result ≡ record_due due word.now }
 {
-    match text_at(row, 0) {
-        b"END" => end_place(row),
-        b"CUT" => cut_place(row),
-        _ => other,
+    match due {
+        PlanDue::Plan => Some(PlanRecord::Plan),
+        PlanDue::Leg => Some(match word {
+            b"END" => PlanRecord::End,
+            b"CUT" => PlanRecord::Cut,
+            _ => PlanRecord::Leg,
+        }),
+        PlanDue::Cut => Some(match word {
+            b"END" => PlanRecord::End,
+            _ => PlanRecord::Cut,
+        }),
+        PlanDue::Nothing => None,
     }
 }

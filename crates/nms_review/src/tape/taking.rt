@@ -10,7 +10,7 @@ ghost use Rattle.nms_review.specs.Taken.{IsTapeOf};
 
 use nms_fees::Setup;
 use nms_flow::Flow;
-use nms_lines::{ByteRecord, Reader, open_records};
+use nms_lines::{ByteRecord, Reader, open_records, open_row};
 use nms_quote::{Change, SideQuote};
 use nms_scripts::{MOST_RECORDS, ScriptFault, read_record, serve};
 use nms_sweep::Planner;
@@ -63,7 +63,7 @@ fn open(alloc: Global, setup: &Setup) -> Result<Taking, ScriptFault>
         flow,
         sent: Vec::new(alloc),
         planner: Planner::new(),
-        row: ByteRecord::new(alloc),
+        row: open_row(alloc),
         answer: Vec::new(alloc),
     })
 }

@@ -1,10 +1,11 @@
 -- `read_cuts`: clauses `refused` and `read` and the turns of its loop, by `cuts_bad`, `cuts_behind`,
 -- `cuts_end`, `cuts_many`, `cuts_more`, `cuts_out` and `cuts_over`.
-use Rattle.std.proofs.Common.{rules, arith, ◌≡◌, ◌≤◌, ◌++◌, ◌∷◌, ◌∙◌, [], Some, Err, refl, sym, length}
+use Rattle.std.proofs.Common.{rules, arith, ◌≡◌, ◌≤◌, ◌++◌, ◌∷◌, ◌∙◌, [], Some, Err, refl, sym, ap, length}
+use Rattle.std.specs.Result.{result_ok}
 use Rattle.std.proofs.lemmas.Grind.{common_steps}
 use Rattle.std.proofs.lemmas.List.{length-append}
 use Rattle.csv.specs.Records.{fields_of}
-use Rattle.nms_lines.specs.PlanReading.{cut_in}
+use Rattle.nms_lines.specs.PlanRecords.{cut_in}
 use Rattle.nms_lines.specs.declared.plan_text_fault.PlanTextFault.TheVariants as fault
 use Rattle.nms_lines.proofs.PlanFacts.{cuts_bad, cuts_behind, cuts_end, cuts_many, cuts_more, cuts_out, cuts_over}
 use Rattle.nms_lines.proofs.plan_reading.read_cuts.Goals as goal
@@ -26,12 +27,13 @@ pub returns-in_default-clause-refused : goal.returns-in_default-clause-refused
 returns-in_default-clause-refused g c = λ left was bad.
     let here = c.loop.invariant.1 left was in
     cuts_bad (fields_of c.args.row.now ∷ left) here.0 c.loop.cuts.items (fields_of c.loop.row) here.1
-    (sym c.is_end.ensures ∙ c.if-is_end.false) (sym c.cut_in.ensures ∙ c.in_default.is)
+    (sym c.is_end.ensures ∙ c.if-is_end.false) (ap result_ok (sym c.cut_in.ensures) ∙ sym c.ok.ensures.value ∙ c.in_default.is)
 
 pub returns-then-is_err-clause-refused : goal.returns-then-is_err-clause-refused
 returns-then-is_err-clause-refused g c = λ left was bad.
     let here = c.loop.invariant.1 left was in
-    let one : cut_in (fields_of c.loop.row) ≡ Some c.in-Some.cut = sym c.cut_in.ensures ∙ c.in-Some.is in
+    let one : cut_in (fields_of c.loop.row) ≡ Some c.in-Some.cut =
+    ap result_ok (sym c.cut_in.ensures) ∙ sym c.ok.ensures.value ∙ c.in-Some.is in
     let full : 32 ≤ length c.loop.cuts.items = search rules in
     cuts_many (fields_of c.args.row.now ∷ left) here.0 c.loop.cuts.items (fields_of c.loop.row) c.in-Some.cut here.1
     (sym c.is_end.ensures ∙ c.if-is_end.false) one full
@@ -39,7 +41,8 @@ returns-then-is_err-clause-refused g c = λ left was bad.
 pub returns-in_err-need_row-clause-refused : goal.returns-in_err-need_row-clause-refused
 returns-in_err-need_row-clause-refused g c = λ left was bad.
     let here = c.loop.invariant.1 left was in
-    let one : cut_in (fields_of c.loop.row) ≡ Some c.in-Some.cut = sym c.cut_in.ensures ∙ c.in-Some.is in
+    let one : cut_in (fields_of c.loop.row) ≡ Some c.in-Some.cut =
+    ap result_ok (sym c.cut_in.ensures) ∙ sym c.ok.ensures.value ∙ c.in-Some.is in
     let out : c.need_row.result ≡ Err fault.BadPlanText = search rules in
     let next = cuts_more (fields_of c.args.row.now ∷ left) here.0 c.loop.cuts.items (fields_of c.loop.row) c.in-Some.cut here.1
     (sym c.is_end.ensures ∙ c.if-is_end.false) one in
@@ -49,7 +52,8 @@ returns-in_err-need_row-clause-refused g c = λ left was bad.
 pub loop-preserved : goal.loop-preserved
 loop-preserved g c =
     let pushed : c.try_push.new.self.items ≡ c.loop.cuts.items ++ c.in-Some.cut ∷ [] = search rules in
-    let one : cut_in (fields_of c.loop.row) ≡ Some c.in-Some.cut = sym c.cut_in.ensures ∙ c.in-Some.is in (
+    let one : cut_in (fields_of c.loop.row) ≡ Some c.in-Some.cut =
+    ap result_ok (sym c.cut_in.ensures) ∙ sym c.ok.ensures.value ∙ c.in-Some.is in (
       rw pushed (omega (arith, length-append c.loop.cuts.items (c.in-Some.cut ∷ []), c.loop.invariant.0)),
       λ left was.
           let here = c.loop.invariant.1 left was in

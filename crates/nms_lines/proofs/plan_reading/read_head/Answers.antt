@@ -1,12 +1,12 @@
--- `read_head`: clauses `refused` and `read`, by `if_ok_or`, `no_head` and `head_same`.
-use Rattle.std.proofs.Common.{arith, rules, ◌≡◌, ◌∙◌, List, ◌∷◌, refl, sym, Err, None, Some}
+-- `read_head`: clauses `refused` and `read`, by `if_ok_or` and `no_head`.
+use Rattle.std.proofs.Common.{arith, rules, ◌≡◌, ◌∙◌, List, ◌∷◌, refl, sym, ap, Err, None, Some}
+use Rattle.std.specs.Result.{result_ok}
 use Rattle.std.proofs.lemmas.Grind.{common_steps}
 use Rattle.nms_lines.specs.Layout.{Record}
 use Rattle.nms_lines.specs.Left.{AreLeft}
 use Rattle.nms_lines.proofs.PlanFacts.{if_ok_or, no_head}
-use Rattle.nms_lines.proofs.HeadFacts.{head_same}
 use Rattle.csv.specs.Records.{fields_of}
-use Rattle.nms_lines.specs.PlanReading.{Head, head_by_order, head_in}
+use Rattle.nms_lines.specs.PlanRecords.{Head, head_in}
 use Rattle.nms_lines.specs.declared.plan_text_fault.PlanTextFault.TheVariants as fault
 use Rattle.nms_lines.proofs.plan_reading.read_head.Goals as goal
 
@@ -24,16 +24,15 @@ returns-clause-read g c = λ left was.
     let row : Record = fields_of c.need_row.new.row in
     if_ok_or (λ (head : Head). (fields : Record) × (more : List Record) × (left ≡ fields ∷ more)
     × (head_in c.args.roster.now fields ≡ Some head) × AreLeft g.R.Read.remaining c.need_row.new.reader more)
-    c.head_in.result fault.BadPlanText c.ok_or.result c.ok_or.ensures.value
-    (λ head one. (row, next.0, next.1, sym (head_same c.args.roster.now row) ∙ sym c.head_in.ensures.head ∙ one, next.2))
+    c.ok.result fault.BadPlanText c.ok_or.result c.ok_or.ensures.value
+    (λ head one. (row, next.0, next.1, ap result_ok (sym c.head_in.ensures.head) ∙ sym c.ok.ensures.value ∙ one, next.2))
 
 -- src/plan_reading.rt:52:1
 pub returns-clause-refused : goal.returns-clause-refused
 returns-clause-refused g c = λ left was bad.
     let next = c.in_ok-need_row.ensures.read left was refl in
-    let none : head_by_order c.args.roster.now (fields_of c.need_row.new.row) ≡ None = search rules in
-    no_head c.args.roster.now left (fields_of c.need_row.new.row) next.0 next.1
-    (sym (head_same c.args.roster.now (fields_of c.need_row.new.row)) ∙ none)
+    let none : head_in c.args.roster.now (fields_of c.need_row.new.row) ≡ None = search rules in
+    no_head c.args.roster.now left (fields_of c.need_row.new.row) next.0 next.1 none
 
 -- ---- goals that `grind` closes; the search that is tried before it takes longer
 

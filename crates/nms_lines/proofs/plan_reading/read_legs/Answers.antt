@@ -1,6 +1,7 @@
 -- `read_legs`: clauses `refused` and `read` and the turns of its loop, by `legs_end`, `legs_many`, `legs_more`,
 -- `legs_out` and `legs_over`.
-use Rattle.std.proofs.Common.{rules, arith, ◌≡◌, ◌<◌, ◌≤◌, ◌++◌, ◌∷◌, ◌∙◌, [], Err, refl, sym, inl, inr, length}
+use Rattle.std.proofs.Common.{rules, arith, ◌≡◌, ◌<◌, ◌≤◌, ◌++◌, ◌∷◌, ◌∙◌, [], Err, refl, sym, ap, inl, inr, length}
+use Rattle.std.specs.Result.{result_ok}
 use Rattle.std.proofs.lemmas.Grind.{common_steps}
 use Rattle.std.proofs.lemmas.List.{length-append}
 use Rattle.std.proofs.lemmas.List.Elements.{All-nil, All-push}
@@ -33,7 +34,7 @@ returns-in_default-clause-read g c = λ left was.
     let here = c.loop.invariant.read left was in
     let next = c.in_ok-need_row.ensures.read here.0 here.2 refl in
     let end = legs_end c.args.roster.now left here.0 next.0 c.loop.legs.items (fields_of c.need_row.new.row) here.1 next.1
-    (sym c.leg_in.ensures.leg ∙ c.in_default.is) in
+    (ap result_ok (sym c.leg_in.ensures.leg) ∙ sym c.ok.ensures.value ∙ c.in_default.is) in
     (next.0, end.0, end.1, next.2)
 
 pub returns-then-is_err-clause-refused : goal.returns-then-is_err-clause-refused
@@ -42,7 +43,7 @@ returns-then-is_err-clause-refused g c = λ left was bad.
     let next = c.in_ok-need_row.ensures.read here.0 here.2 refl in
     let full : 32 ≤ length c.loop.legs.items = search rules in
     inr (legs_many c.args.roster.now left here.0 next.0 c.loop.legs.items (fields_of c.need_row.new.row) c.in-Some.leg here.1 next.1
-    (sym c.leg_in.ensures.leg ∙ c.in-Some.is) full)
+    (ap result_ok (sym c.leg_in.ensures.leg) ∙ sym c.ok.ensures.value ∙ c.in-Some.is) full)
 
 pub loop-preserved : goal.loop-preserved
 loop-preserved g c =
@@ -56,7 +57,7 @@ loop-preserved g c =
           let next = c.in_ok-need_row.ensures.read here.0 here.2 refl in (
             next.0,
             rw pushed (legs_more c.args.roster.now left here.0 next.0 c.loop.legs.items (fields_of c.need_row.new.row) c.in-Some.leg
-                here.1 next.1 (sym c.leg_in.ensures.leg ∙ c.in-Some.is)),
+                here.1 next.1 (ap result_ok (sym c.leg_in.ensures.leg) ∙ sym c.ok.ensures.value ∙ c.in-Some.is)),
             next.2,
           );
     }
