@@ -1,6 +1,11 @@
 mod BestLemmas
 pub mod BoardLemmas
 pub mod CarriedLemmas
+pub mod GivenLemmas
+pub mod GivenOnce
+pub mod GivenOrders
+pub mod GivenRanks
+pub mod GivenWhole
 pub mod HistoryLemmas
 pub mod KeptLemmas
 pub mod LawLemmas

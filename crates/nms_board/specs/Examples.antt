@@ -8,6 +8,7 @@ use Rattle.nms_quote.specs.declared.side_quote.Side.TheVariants.{Bid, Offer}
 use Rattle.nms_quote.specs.declared.side_quote.QState.TheVariants.{Automated, Manual, Halted}
 use Rattle.nms_quote.specs.declared.change.Change.{Change}
 use Rattle.nms_quote.specs.declared.change.Change.TheVariants as change
+use Rattle.nms_board.specs.Given.{are_rows, falls}
 use Rattle.nms_board.specs.Quotation.{quotations}
 use Rattle.nms_board.specs.Ranking.{ranked}
 use Rattle.nms_board.specs.declared.row.Row.{Row}
@@ -96,7 +97,11 @@ offers tape = quotations four tape abc Offer
 abbrev pub ranked_offers : Tape → List Row
 ranked_offers tape = ranked Offer (offers tape)
 
--- what each of the tapes shows
+-- a side that a caller brings, best offer first: the larger size, then the worse price
+abbrev pub brought : List Row
+brought = row p 100000 500 3 ∷ row n 100000 300 2 ∷ record (row 3 100100 900 1) { protected = false } ∷ []
+
+-- what each of the tapes shows, and what is tested of rows that a caller brings
 pub record ExamplesHold : Type 0 where
   pub part_of_a_lot_is_no_offer : offers odd_lot ≡ []
   pub whole_lots_show : offers round_lot ≡ row n 100000 200 2 ∷ []
@@ -115,3 +120,11 @@ pub record ExamplesHold : Type 0 where
   pub a_lot_of_one_shows_all : ranked_offers lot_of_one ≡ row p 100000 60 2 ∷ row n 100000 50 1 ∷ []
   pub a_halt_hides_in_another_lot : offers halted_over ≡ row p 100000 40 2 ∷ []
   pub a_halt_lifted_shows_in_the_lot_of_then : ranked_offers lifted_over ≡ row n 100000 40 1 ∷ row p 100000 40 2 ∷ []
+  pub best_first_is_in_order : falls Offer brought ≡ true
+  pub offers_are_no_bids : falls Bid brought ≡ false
+  pub less_first_is_out_of_order : falls Offer (row n 100000 300 2 ∷ row p 100000 500 3 ∷ []) ≡ false
+  pub equal_rows_are_out_of_order : falls Offer (row n 100000 300 2 ∷ row p 100000 300 2 ∷ []) ≡ false
+  pub rows_by_place_are_a_side : are_rows (row n 100000 300 2 ∷ row p 100000 500 3 ∷ []) ≡ true
+  pub a_participant_twice_is_no_side : are_rows (row n 100000 300 2 ∷ row n 100000 500 3 ∷ []) ≡ false
+  pub a_receipt_twice_is_no_side : are_rows (row n 100000 300 2 ∷ row p 100000 500 2 ∷ []) ≡ false
+  pub no_shares_are_no_side : are_rows (row n 100000 0 2 ∷ []) ≡ false

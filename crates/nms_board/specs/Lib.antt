@@ -6,6 +6,7 @@ pub mod Bests
 pub mod Carried
 pub mod Cells
 pub mod Examples
+pub mod Given
 pub mod History
 pub mod Holding
 pub mod Kept

@@ -15,10 +15,10 @@ ghost use Rattle.nms_board.specs.Ranking.{ranked_at, total_size};
 
 use crate::MOST_ROWS;
 use crate::board_fault::BoardFault;
-use crate::cell::{Cell, empty_cells};
+use crate::cell::{Cell, clear_cells, empty_cells};
 use crate::row::Row;
-use crate::symbol_best::{SymbolBest, empty_bests};
-use crate::symbol_ranks::{SymbolRanks, empty_ranks};
+use crate::symbol_best::{SymbolBest, clear_bests, empty_bests};
+use crate::symbol_ranks::{SymbolRanks, clear_ranks, empty_ranks};
 use crate::view::View;
 use arrayvec::ArrayVec;
 use nms_quote::{Change, MOST_CHANGES, MOST_SYMBOLS, Part, Roster, Side, Sym};
@@ -117,6 +117,17 @@ impl Boards {
             bests,
             applied: 0,
         })
+    }
+
+    /// Takes everything off the board: it is as `new` made it. It takes no memory.
+    pub fn clear(&mut self)
+        ensures { self.new ≡ opening self.old.sizes }
+    {
+        self.lots.copy_from_slice(&self.opening);
+        clear_cells(&mut self.cells);
+        clear_ranks(&mut self.ranks);
+        clear_bests(&mut self.bests);
+        self.applied = 0;
     }
 
     /// Whether the roster holds the change and fewer than `MOST_CHANGES` were applied.

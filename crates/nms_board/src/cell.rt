@@ -1,5 +1,5 @@
 //! One participant in one symbol: the cells of `specs/Cells`.
-ghost use Rattle.std.specs.Prelude.{◌≡◌, ℕ, ◌*◌, ◌≤◌, IfOk, Some, false, true, replicate};
+ghost use Rattle.std.specs.Prelude.{◌≡◌, ℕ, ◌*◌, ◌≤◌, IfOk, Some, false, length, true, replicate};
 ghost use Rattle.std.specs.Option.{is_some};
 ghost use Rattle.nms_board.specs.Cells.{empty_cell};
 ghost use Rattle.nms_board.specs.History.{on_side};
@@ -248,6 +248,13 @@ impl Cell {
             protected: self.state == Some(QState::Automated),
         })
     }
+}
+
+/// Makes cells those of participants that never quoted.
+pub(crate) fn clear_cells(cells: &mut [Cell])
+    ensures { cells.new ≡ replicate (length cells.old) empty_cell }
+{
+    cells.fill(Cell::empty());
 }
 
 /// The cells of `syms` symbols, `MOST_ROWS` each, of participants that never quoted.

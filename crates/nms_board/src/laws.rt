@@ -87,6 +87,13 @@ pub fn rows_have_one_rank_order()
         → in_order ≡ ranked side rows }
 {}
 
+/// The rank order of a side says its rows: no other rows that a side could show have that order. So a view is no more than
+/// its two rank orders.
+pub fn a_rank_order_says_its_rows()
+    ensures { (side : Side) (rows others in_order : List Row) → AreRows rows → AreRows others
+        → IsRankOrder side rows in_order → IsRankOrder side others in_order → rows ≡ others }
+{}
+
 /// A change leaves the quotations of every symbol that it does not concern. A new round lot of another symbol is one.
 pub fn other_symbols_stay()
     ensures { (board : Board) (change : Change) (sym : ℕ) (side : Side)

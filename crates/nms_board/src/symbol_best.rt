@@ -136,6 +136,16 @@ fn find_row(side: Side, lot: Lot, place: u8, cells: &[Cell]) -> Option<Row>
     cell.row(side, Part::new(place)?, lot)
 }
 
+/// Makes the best rows of symbols those of no rows.
+pub(crate) fn clear_bests(bests: &mut [SymbolBest])
+    ensures len { length bests.new ≡ length bests.old }
+    ensures empty { All HasNone bests.new }
+{
+    for place in 0..bests.len() {
+        bests[place] = SymbolBest::none();
+    }
+}
+
 /// The best rows of `syms` symbols with no rows.
 pub(crate) fn empty_bests(alloc: Global, syms: usize) -> Result<Vec<SymbolBest>, AllocError>
     requires { syms ≤ MOST_SYMBOLS }

@@ -5,3 +5,4 @@ pub mod RowFacts
 pub mod StayFacts
 pub mod UpToFacts
 pub mod WholeFacts
+pub mod RollingFacts

@@ -6,3 +6,4 @@ pub mod Alike
 pub mod Examples
 pub mod Next
 pub mod Opening
+pub mod Rolling

@@ -5,10 +5,18 @@ mod laws;
 mod next;
 mod opening_changes;
 mod opening_list;
+mod rolling;
 
 /// The most opening changes of a symbol: its round lot, and two sides of each of 32 participants.
 pub const MOST_OPENING: usize = 65;
 
+/// A `RollingBoard` begins to go over when its board has this many changes: then there is room for one change a symbol.
+pub const ROLLS_AT: u64 = 9_990_000;
+
+/// The most changes that a `RollingBoard` counts beside those of its board.
+pub const MOST_BEFORE: u64 = 9_223_372_036_854_775_808;
+
 pub use laws::{alike_boards_show_the_same, alike_boards_stay_alike, worked_examples};
 pub use opening_changes::OpeningChanges;
 pub use opening_list::{opening, opening_of, reopened};
+pub use rolling::RollingBoard;

@@ -1,0 +1,171 @@
+//! A board that takes changes without end: `specs/Rolling`.
+ghost use Rattle.std.specs.Prelude.{◌≡◌, ℕ, ◌+◌, ◌<◌, ◌≤◌, IfOk, length, nat_lt, true};
+ghost use Rattle.nms_quote.specs.Roster.{holds, sizes_of};
+ghost use Rattle.nms_quote.specs.declared.TheConstants.{MOST_CHANGES};
+ghost use Rattle.nms_board.specs.Cells.{after, opening};
+ghost use Rattle.nms_opening.specs.Alike.{ShowAlike};
+ghost use Rattle.nms_opening.specs.Rolling.{HasRoom, HasTaken, IsCarrying, IsReady, is_followed, version};
+ghost use Rattle.nms_opening.specs.declared.TheConstants.{MOST_BEFORE, MOST_OPENING};
+
+use crate::ROLLS_AT;
+use crate::opening_list::opening_of;
+use nms_board::{BoardFault, Boards};
+use nms_quote::{Change, Roster, Sym};
+use std::alloc::Global;
+use std::marker::Model;
+use std::mem;
+
+/// A board that takes changes without end. Each change takes about as long as that of a plain board: near the limit of its changes
+/// the board also brings one symbol to the next board, which takes its place when it has all symbols.
+pub struct RollingBoard {
+    board: Boards,
+    next: Boards,
+    /// How many symbols the next board has, if it is being filled.
+    carried: Option<u16>,
+    before: u64,
+}
+
+impl Model for RollingBoard {
+    ghost use Rattle.std.specs.Prelude.{◌≤◌};
+    ghost use Rattle.nms_opening.specs.Rolling.{IsReady, Rolled};
+
+    ghost Value = { Rolled };
+
+    ghost view = { λ r. record { board = r.board; before = r.before } };
+
+    ghost invariant = { λ r. IsReady r.board r.next r.carried };
+}
+
+impl RollingBoard {
+    /// The board of a roster with nothing on it. No later call takes memory.
+    pub fn new(alloc: Global, roster: &Roster) -> Result<Self, BoardFault>
+        ensures opening { IfOk result (λ rolling. rolling.board ≡ opening (sizes_of roster.now)) }
+        ensures before { IfOk result (λ rolling. rolling.before ≡ 0) }
+    {
+        let board = Boards::new(alloc, roster)?;
+        let next = Boards::new(alloc, roster)?;
+        Ok(RollingBoard {
+            board,
+            next,
+            carried: None,
+            before: 0,
+        })
+    }
+
+    /// The board, for all looks. Its receipts count from the last time that it went over: they are in the order of the changes.
+    pub fn board(&self) -> &Boards
+        ensures { result.now ≡ self.now.board }
+    {
+        &self.board
+    }
+
+    /// How many changes were taken.
+    pub fn version(&self) -> u64
+        requires { self.now.before ≤ MOST_BEFORE }
+        ensures { result ≡ version self.now }
+    {
+        self.before + self.board.applied()
+    }
+
+    /// Takes a change. It takes as long as with a plain board, but for one symbol's opening changes while the board goes over.
+    pub fn apply(&mut self, change: Change)
+        requires held { holds self.old.board.sizes change ≡ true }
+        requires before { self.old.before ≤ MOST_BEFORE }
+        ensures { HasTaken self.old self.new change }
+    {
+        self.board.stands_for_a_tape();
+        match self.carried {
+            None => {
+                self.board.apply(change);
+                if self.board.applied() == ROLLS_AT {
+                    self.next.clear();
+                    self.carried = go_over(&mut self.board, &mut self.next, 0, &mut self.before);
+                }
+            }
+            Some(carried) => {
+                apply_both(&mut self.board, &mut self.next, change, carried);
+                bring(&self.board, &mut self.next, carried);
+                self.carried = go_over(
+                    &mut self.board,
+                    &mut self.next,
+                    carried + 1,
+                    &mut self.before,
+                );
+            }
+        }
+    }
+}
+
+/// Applies a change to the board, and to the next one if it has the change's symbol.
+fn apply_both(board: &mut Boards, next: &mut Boards, change: Change, carried: u16)
+    requires held { holds board.old.sizes change ≡ true }
+    requires carrying { IsCarrying board.old next.old carried }
+    requires board_room { board.old.applied < MOST_CHANGES }
+    requires next_room { next.old.applied < MOST_CHANGES }
+    ensures after { board.new ≡ after board.old change }
+    ensures carrying { IsCarrying board.new next.new carried }
+    ensures few { next.new.applied ≤ next.old.applied + 1 }
+{
+    board.stands_for_a_tape();
+    next.stands_for_a_tape();
+    board.apply(change);
+    if is_followed(&change, carried) {
+        next.apply(change);
+    }
+}
+
+/// Whether a change goes to the next board too: it is of a symbol that is there, or of all.
+fn is_followed(change: &Change, carried: u16) -> bool
+    ensures { result ≡ is_followed change.now carried }
+{
+    match *change {
+        Change::Quote { sym, .. } | Change::State { sym, .. } | Change::Lot { sym, .. } => {
+            sym.get() < carried
+        }
+        Change::Withdraw { .. } => true,
+    }
+}
+
+/// Brings the opening changes of one symbol more to the next board.
+fn bring(board: &Boards, next: &mut Boards, carried: u16)
+    requires carrying { IsCarrying board.now next.old carried }
+    requires within { carried < length board.now.sizes.lots }
+    requires room { next.old.applied + MOST_OPENING ≤ MOST_CHANGES }
+    ensures carrying { IsCarrying board.now next.new (carried + 1) }
+    ensures few { next.new.applied ≤ next.old.applied + MOST_OPENING }
+{
+    board.stands_for_a_tape();
+    let changes = opening_of(board, Sym::new(carried).unwrap());
+    next.apply_all(changes.as_slice());
+}
+
+/// Goes over to the next board if it has all symbols; how many it has, if not.
+fn go_over(board: &mut Boards, next: &mut Boards, carried: u16, before: &mut u64) -> Option<u16>
+    requires carrying { IsCarrying board.old next.old carried }
+    requires room { HasRoom board.old next.old carried }
+    requires within { carried ≤ length board.old.sizes.lots }
+    requires before { before.old ≤ MOST_BEFORE }
+    ensures ready { IsReady board.new next.new result }
+    ensures counted { before.new + board.new.applied ≡ before.old + board.old.applied }
+    ensures roster { board.new.sizes ≡ board.old.sizes }
+    ensures alike { (sym : ℕ) → sym < length board.old.sizes.lots → ShowAlike board.old board.new sym }
+{
+    board.stands_for_a_tape();
+    if has_place(board, carried) {
+        return Some(carried);
+    }
+    *before += board.applied() - next.applied();
+    mem::swap(board, next);
+    None
+}
+
+/// Whether the board has a symbol at a place.
+fn has_place(board: &Boards, place: u16) -> bool
+    ensures { result ≡ nat_lt place (length board.now.sizes.lots) }
+{
+    board.stands_for_a_tape();
+    match Sym::new(place) {
+        Some(sym) => board.has_sym(sym),
+        None => false,
+    }
+}
