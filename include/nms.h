@@ -2,8 +2,9 @@
  *
  * HOW TO CALL
  *   Every call returns a code of `enum nms_code`: NMS_OK (0), or why it was refused. A refused call leaves the board
- *   as it was and writes nothing to the caller's structs. Two calls differ, and say so: nms_apply_all and nms_confirm.
- *   Set a board to NMS_BOARD_CLOSED before nms_open. Close each board that was opened, once.
+ *   as it was and writes nothing to the caller's structs. Three calls differ, and say so: nms_apply_all, nms_confirm and
+ *   nms_confirm_view.
+ *   Set a board to NMS_BOARD_CLOSED before nms_open. Close each board that was opened, once. Terms likewise.
  *   Find the number of a name once (nms_find_part, nms_find_sym), and use the number after that. A participant's number is
  *   its place in the setup's document, 0 to 31; so is a symbol's, 0 to 999.
  *
@@ -12,42 +13,52 @@
  *   1/1,000,000 dollar. Shares are 1 to 999,999,999. Money is in nanodollars (10^-9 dollar).
  *
  * MEMORY
- *   nms_open takes memory, and nms_close gives it back. nms_setup_place takes memory and gives it back before it returns. No
- *   other call takes any. The caller's structs may lie anywhere: on the stack, in an array, in shared memory.
+ *   nms_open takes memory, and nms_close gives it back; nms_terms_open and nms_terms_close likewise. nms_setup_place takes
+ *   memory and gives it back before it returns. No other call takes any. The caller's structs may lie anywhere: on the stack,
+ *   in an array, in shared memory.
  *   Stack that a call needs, in KiB; a thread or a fiber with less room dies in the call:
- *     nms_open 2048, nms_setup_place 2048, nms_read_plan 96, nms_confirm 20, nms_opening_of 16, nms_plan_text 12,
- *     nms_traded_through 12, any other call 4
- *   nms_open and nms_setup_place take 48 for a text that is a setup. They take more for one that nests, up to 80 tables with
- *   keys of 80 parts each, which are the most that TOML text may have here.
+ *     nms_open 2048, nms_terms_open 2048, nms_setup_place 2048, nms_read_plan 96, nms_plan_view 32, nms_confirm_view 32,
+ *     nms_plan_order 24, nms_through_view 24, nms_confirm 20, nms_opening_of 16, nms_plan_text 12, nms_traded_through 12,
+ *     any other call 4
+ *   nms_open, nms_terms_open and nms_setup_place take 48 for a text that is a setup. They take more for one that nests, up to
+ *   80 tables with keys of 80 parts each, which are the most that TOML text may have here.
  *
  * THREADS
- *   A look is a call that takes a `const nms_board *`. Looks at one board may run together, in any number of threads, as
- *   long as no other call runs on that board: a reader's lock does that. Every other call on a board needs an exclusive
- *   lock, which keeps looks out too. That holds also for nms_plan_order, nms_plan_text and nms_read_plan, since they work
- *   in room that lies in the board. Or give each thread a board of its own. A board may go from one thread to another if a
- *   lock, a start or a join orders the two. No call waits, starts a thread, or may be made from a signal handler. The
- *   library holds no state besides the boards. It does not publish versions to several threads: that needs the runtime of
- *   a whole program, and a library that C calls has none.
+ *   A look is a call that takes a `const nms_board *`. It stores its answer and nothing else. Looks at one board may run
+ *   together, in any number of threads, as long as no other call runs on that board: a reader's lock does that. nms_plan_order
+ *   is a look too. Every other call on a board needs an exclusive lock, which keeps looks out too. That holds also for
+ *   nms_plan_text and nms_read_plan, since they work in room that lies in the board. Or give each thread a board of its own. A
+ *   board may go from one thread to another if a lock, a start or a join orders the two. No call waits, starts a thread, or may
+ *   be made from a signal handler. The library holds no state besides boards and terms. To publish views from one
+ *   thread to others without a lock, use nms_shared.h.
+ *
+ * A VIEW IS A VALUE
+ *   nms_view_of writes all that a look at a symbol shows. The struct may be copied, sent and stored. nms_plan_view,
+ *   nms_confirm_view and nms_through_view work on it, with no board: they promise what nms_plan_order, nms_confirm and
+ *   nms_traded_through promise of the board at that version. nms_terms are the roster and the fees, which stay as they are from
+ *   nms_terms_open to nms_terms_close. So any number of threads may make these calls at once, also beside changes of a board,
+ *   with no lock. A caller who shares a view while another thread writes it has to see to it that it reads a whole one. What a
+ *   torn copy mostly shows is answered NMS_NO_VIEW: numbers that no look shows.
  *
  * WHAT A LOOK COPIES
- *   The library's function takes the board out of the handle that it is given, and puts it back before it returns. So a
- *   look gives it a copy of the handle's 16 bytes, on the stack. The caller's handle stays as it is, and the copy ends with
- *   the look. What is proved of each function speaks of one handle, which owns its board while the function runs. C has to
- *   keep the rest: until every look has returned, no other call runs on the board. That looks which run together answer as
- *   each of them does without the others is tested, and not proved.
+ *   The library's function takes its right to read the board out of the handle that it is given, and puts it back before it
+ *   returns. So a look gives it a copy of the handle's 16 bytes, on the stack. The caller's handle stays as it is, and the copy
+ *   ends with the look. What is proved of a look is that it answers as its clauses say with a share of the right to read the
+ *   board, of which there may be any number; whoever holds one may not write. C has to keep the rest: until every look has
+ *   returned, no other call runs on the board. The same holds for terms.
  *
  * NULL POINTERS
  *   The calls below are inline functions. Each tests its pointers, answers NMS_NULL (18) if one is null, and then calls the
  *   function of the library, which has the same name with `nms_raw_` in place of `nms_` and the same arguments. A text of 0
  *   bytes and an array of 0 changes, which a call only reads, may have a null pointer. C and C++ call the inline functions.
  *   A language that can't read this header calls nms_raw_*. It passes no null pointer, compares nms_abi() with NMS_ABI once,
- *   and gives each look a copy of the handle, or an exclusive lock.
+ *   and gives each look, and each call on terms, a copy of the handle, or an exclusive lock.
  *
  * WHAT NO CALL CAN SEE
  *   A pointer that is not null has to point at a whole struct of its type, or at as many bytes or elements as the caller
  *   says. Two arguments of one call may not overlap. Never copy a struct nms_board yourself. After one copy is closed or
  *   used, the other points at memory that is no longer its own, and no test can find that out. Treat it as a
- *   pthread_mutex_t. The same holds for a board whose bytes the caller alters.
+ *   pthread_mutex_t. The same holds for struct nms_terms, and for either if the caller alters its bytes.
  */
 #ifndef NMS_H
 #define NMS_H
@@ -59,8 +70,9 @@
 extern "C" {
 #endif
 
-/* The version of this header's layout, which libnms.so has in its name. nms_open and nms_setup_place compare it with nms_abi(). */
-#define NMS_ABI 1
+/* The version of this header's layout, which libnms.so has in its name. nms_open, nms_terms_open and nms_setup_place
+ * compare it with nms_abi(). */
+#define NMS_ABI 2
 /* The version of the product that this header came with. nms_version writes that of the library. */
 #define NMS_VERSION "0.2.0"
 
@@ -95,12 +107,13 @@ enum nms_code {
     NMS_NO_SYM = 12,          /* no such symbol on the roster */
     NMS_FULL = 13,            /* the tape has as many changes as the setup's tape_limit allows */
     NMS_NONE = 14,            /* no row at that place, no such code */
-    NMS_CLOSED = 15,          /* the board is not open: never opened, closed, or overwritten */
+    NMS_CLOSED = 15,          /* the board is not open, or the terms: never opened, closed, or overwritten */
     NMS_DOUBTED = 16,         /* the plan is not confirmed: nms_doubt says why */
-    NMS_OPEN_ALREADY = 17,    /* the board is open already */
+    NMS_OPEN_ALREADY = 17,    /* the board is open already, or the terms */
     NMS_NULL = 18,            /* a null pointer */
     NMS_ROOM = 19,            /* the caller's buffer is too small */
-    NMS_WRONG_ABI = 20,       /* the library has another layout than this header: only nms_open, nms_setup_place */
+    NMS_WRONG_ABI = 20,       /* the library has another layout than this header: only nms_open, nms_terms_open, nms_setup_place */
+    NMS_NO_VIEW = 21,         /* no look shows such a view: a torn copy, or numbers that no look wrote */
     /* why a record or the text of a plan is refused, as nms_tool names it: L1 to L8, L11, L14 */
     NMS_L1_UNKNOWN_KIND = 101,
     NMS_L2_FIELD_COUNT = 102,
@@ -137,6 +150,14 @@ typedef struct nms_board {
     void *at;
 } nms_board;
 #define NMS_BOARD_CLOSED { 0, 0 }
+
+/* The roster and the fees of a setup. Set it to NMS_TERMS_CLOSED (all zero) before nms_terms_open. Its fields are the library's.
+ * The caller never copies it. */
+typedef struct nms_terms {
+    uint64_t mark;
+    void *at;
+} nms_terms;
+#define NMS_TERMS_CLOSED { 0, 0 }
 
 /* A change of the board. The fields that its kind does not use are ignored.
  *   NMS_QUOTE     part, sym, state, and both sides: a side is a price and 1 or more shares, or 0 and 0 for no quotation
@@ -178,10 +199,11 @@ typedef struct nms_rows {
     uint32_t spare; /* 0 */
 } nms_rows;
 
-/* All rows of a symbol. */
+/* All rows of a symbol. It is whole in itself: nms_plan_view, nms_confirm_view and nms_through_view need no more of a board. */
 typedef struct nms_view {
-    uint64_t version;
-    uint32_t market, spare;
+    uint64_t version; /* changes applied so far */
+    uint32_t market;  /* enum nms_market */
+    uint16_t sym, spare; /* spare: 0 */
     nms_rows bid, offer;
 } nms_view;
 
@@ -271,6 +293,7 @@ typedef struct nms_opening {
 #endif
 NMS_HOLDS(sizeof(void *) == 8, "64-bit pointers");
 NMS_HOLDS(sizeof(nms_board) == 16 && offsetof(nms_board, at) == 8, "nms_board");
+NMS_HOLDS(sizeof(nms_terms) == 16 && offsetof(nms_terms, at) == 8, "nms_terms");
 NMS_HOLDS(sizeof(nms_change) == 32, "nms_change");
 NMS_HOLDS(offsetof(nms_change, offer_price) == 8 && offsetof(nms_change, bid_shares) == 16, "nms_change");
 NMS_HOLDS(offsetof(nms_change, offer_shares) == 20 && offsetof(nms_change, sym) == 24, "nms_change");
@@ -284,6 +307,7 @@ NMS_HOLDS(sizeof(nms_rows) == 720 && offsetof(nms_rows, price) == 8 && offsetof(
 NMS_HOLDS(offsetof(nms_rows, size) == 520 && offsetof(nms_rows, part) == 648, "nms_rows");
 NMS_HOLDS(offsetof(nms_rows, is_protected) == 680 && offsetof(nms_rows, count) == 712, "nms_rows");
 NMS_HOLDS(sizeof(nms_view) == 1456 && offsetof(nms_view, bid) == 16 && offsetof(nms_view, offer) == 736, "nms_view");
+NMS_HOLDS(offsetof(nms_view, market) == 8 && offsetof(nms_view, sym) == 12, "nms_view");
 NMS_HOLDS(sizeof(nms_through) == 1552 && offsetof(nms_through, bid) == 16, "nms_through");
 NMS_HOLDS(offsetof(nms_through, offers) == 12 && offsetof(nms_through, offer) == 784, "nms_through");
 NMS_HOLDS(sizeof(nms_order) == 24 && offsetof(nms_order, shares) == 8 && offsetof(nms_order, self_help) == 12, "nms_order");
@@ -306,25 +330,34 @@ uint32_t nms_raw_code_text(uint32_t code, uint8_t *out, size_t room, size_t *byt
 uint32_t nms_raw_open(const uint8_t *setup, size_t setup_bytes, nms_board *board);
 uint32_t nms_raw_setup_place(const uint8_t *setup, size_t setup_bytes, nms_place *place);
 uint32_t nms_raw_close(nms_board *board);
-uint32_t nms_raw_counts_of(nms_board *board, nms_counts *counts);
-uint32_t nms_raw_find_part(nms_board *board, const uint8_t *name, size_t name_bytes, uint8_t *part);
-uint32_t nms_raw_find_sym(nms_board *board, const uint8_t *name, size_t name_bytes, uint16_t *sym);
-uint32_t nms_raw_part_name(nms_board *board, uint8_t part, uint8_t *out, size_t room, size_t *bytes);
-uint32_t nms_raw_sym_name(nms_board *board, uint16_t sym, uint8_t *out, size_t room, size_t *bytes);
+uint32_t nms_raw_counts_of(nms_board *look, nms_counts *counts);
+uint32_t nms_raw_find_part(nms_board *look, const uint8_t *name, size_t name_bytes, uint8_t *part);
+uint32_t nms_raw_find_sym(nms_board *look, const uint8_t *name, size_t name_bytes, uint16_t *sym);
+uint32_t nms_raw_part_name(nms_board *look, uint8_t part, uint8_t *out, size_t room, size_t *bytes);
+uint32_t nms_raw_sym_name(nms_board *look, uint16_t sym, uint8_t *out, size_t room, size_t *bytes);
 uint32_t nms_raw_apply(nms_board *board, const nms_change *change);
 uint32_t nms_raw_apply_all(nms_board *board, const nms_change *changes, size_t count, size_t *applied);
 uint32_t nms_raw_apply_text(nms_board *board, const uint8_t *record, size_t record_bytes);
-uint32_t nms_raw_best_of(nms_board *board, uint16_t sym, nms_best *best);
-uint32_t nms_raw_ranked(nms_board *board, uint16_t sym, uint8_t side, uint8_t place, nms_row *row);
-uint32_t nms_raw_rows_of(nms_board *board, uint16_t sym, uint8_t side, nms_rows *rows);
-uint32_t nms_raw_view_of(nms_board *board, uint16_t sym, nms_view *view);
-uint32_t nms_raw_traded_through(nms_board *board, uint16_t sym, uint64_t millionths, nms_through *through);
-uint32_t nms_raw_plan_order(nms_board *board, const nms_order *order, nms_plan *plan);
-uint32_t nms_raw_confirm(nms_board *board, const nms_order *order, const nms_plan *plan, nms_doubt *doubt);
-uint32_t nms_raw_unit_cost(nms_board *board, uint8_t part, uint8_t side, uint64_t price, int64_t *nanodollars);
+uint32_t nms_raw_best_of(nms_board *look, uint16_t sym, nms_best *best);
+uint32_t nms_raw_ranked(nms_board *look, uint16_t sym, uint8_t side, uint8_t place, nms_row *row);
+uint32_t nms_raw_rows_of(nms_board *look, uint16_t sym, uint8_t side, nms_rows *rows);
+uint32_t nms_raw_view_of(nms_board *look, uint16_t sym, nms_view *view);
+uint32_t nms_raw_traded_through(nms_board *look, uint16_t sym, uint64_t millionths, nms_through *through);
+uint32_t nms_raw_plan_order(nms_board *look, const nms_order *order, nms_plan *plan);
+uint32_t nms_raw_confirm(nms_board *look, const nms_order *order, const nms_plan *plan, nms_doubt *doubt);
+uint32_t nms_raw_unit_cost(nms_board *look, uint8_t part, uint8_t side, uint64_t price, int64_t *nanodollars);
 uint32_t nms_raw_plan_text(nms_board *board, const nms_order *order, const nms_plan *plan, uint8_t *out, size_t room, size_t *bytes);
 uint32_t nms_raw_read_plan(nms_board *board, const uint8_t *text, size_t text_bytes, nms_order *order, nms_plan *plan);
-uint32_t nms_raw_opening_of(nms_board *board, uint16_t sym, nms_opening *opening);
+uint32_t nms_raw_opening_of(nms_board *look, uint16_t sym, nms_opening *opening);
+uint32_t nms_raw_terms_open(const uint8_t *setup, size_t setup_bytes, nms_terms *terms);
+uint32_t nms_raw_terms_close(nms_terms *terms);
+uint32_t nms_raw_terms_find_part(nms_terms *look, const uint8_t *name, size_t name_bytes, uint8_t *part);
+uint32_t nms_raw_terms_find_sym(nms_terms *look, const uint8_t *name, size_t name_bytes, uint16_t *sym);
+uint32_t nms_raw_terms_part_name(nms_terms *look, uint8_t part, uint8_t *out, size_t room, size_t *bytes);
+uint32_t nms_raw_terms_sym_name(nms_terms *look, uint16_t sym, uint8_t *out, size_t room, size_t *bytes);
+uint32_t nms_raw_plan_view(nms_terms *look, const nms_view *view, const nms_order *order, nms_plan *plan);
+uint32_t nms_raw_confirm_view(nms_terms *look, const nms_view *view, const nms_order *order, const nms_plan *plan, nms_doubt *doubt);
+uint32_t nms_raw_through_view(const nms_view *view, uint64_t millionths, nms_through *through);
 
 /* ---- the calls ---- */
 
@@ -518,7 +551,8 @@ static inline uint32_t nms_rows_of(const nms_board *board, uint16_t sym, uint8_t
     return nms_raw_rows_of(&look, sym, side, rows);
 }
 
-/* Writes both sides of a symbol, as nms_rows_of, with the state of the market. Codes: NMS_NO_SYM, NMS_CLOSED. */
+/* Writes both sides of a symbol, as nms_rows_of, with the version, the symbol and the state of the market. What it writes may be
+ * given to nms_plan_view, nms_confirm_view and nms_through_view, also after the board has changed. Codes: NMS_NO_SYM, NMS_CLOSED. */
 static inline uint32_t nms_view_of(const nms_board *board, uint16_t sym, nms_view *view)
 {
     if (!board || !view) {
@@ -542,11 +576,14 @@ static inline uint32_t nms_traded_through(const nms_board *board, uint16_t sym, 
 }
 
 /* Plans an order: a lawful plan that fills the most shares, at the least cost with fees, with its certificate. A plan
- * that fills nothing has 0 legs. Codes: NMS_RANGE, NMS_NO_PART (self_help), NMS_NO_SYM, NMS_CLOSED. Needs an exclusive lock,
- * since it works in the board's own room. */
-static inline uint32_t nms_plan_order(nms_board *board, const nms_order *order, nms_plan *plan)
+ * that fills nothing has 0 legs. It works on its own stack. Codes: NMS_RANGE, NMS_NO_PART (self_help), NMS_NO_SYM, NMS_CLOSED. */
+static inline uint32_t nms_plan_order(const nms_board *board, const nms_order *order, nms_plan *plan)
 {
-    return board && order && plan ? nms_raw_plan_order(board, order, plan) : (uint32_t)NMS_NULL;
+    if (!board || !order || !plan) {
+        return NMS_NULL;
+    }
+    nms_board look = *board;
+    return nms_raw_plan_order(&look, order, plan);
 }
 
 /* Confirms on the board that a plan is lawful and the best one for the order, from any maker. It does not trust the
@@ -576,7 +613,8 @@ static inline uint32_t nms_unit_cost(const nms_board *board, uint8_t part, uint8
 }
 
 /* Writes a plan and its certificate as text, in the layout that nms_tool writes and reads, with a closing zero.
- * *bytes is its length without the zero. The plan need not be lawful. Needs an exclusive lock, as nms_plan_order.
+ * *bytes is its length without the zero. The plan need not be lawful. Needs an exclusive lock, since it works in the board's
+ * own room.
  * Codes: NMS_RANGE, NMS_NO_PART, NMS_NO_SYM, NMS_CLOSED, NMS_ROOM. */
 static inline uint32_t nms_plan_text(nms_board *board, const nms_order *order, const nms_plan *plan, char *out, size_t room, size_t *bytes)
 {
@@ -584,7 +622,7 @@ static inline uint32_t nms_plan_text(nms_board *board, const nms_order *order, c
 }
 
 /* Reads a plan, its order and its certificate from that text. What it reads need not be lawful: nms_confirm judges that.
- * Needs an exclusive lock, as nms_plan_order.
+ * Needs an exclusive lock, as nms_plan_text.
  * Codes: NMS_L11_BAD_PLAN_TEXT, NMS_RANGE (more than 8,192 bytes, or a marginal beyond 10^18 nanodollars), NMS_CLOSED. */
 static inline uint32_t nms_read_plan(nms_board *board, const char *text, size_t text_bytes, nms_order *order, nms_plan *plan)
 {
@@ -604,6 +642,99 @@ static inline uint32_t nms_opening_of(const nms_board *board, uint16_t sym, nms_
     }
     nms_board look = *board;
     return nms_raw_opening_of(&look, sym, opening);
+}
+
+/* Opens terms from the text of a setup, as nms_open opens a board. They never change. Codes: NMS_WRONG_ABI; NMS_OPEN_ALREADY;
+ * 1 to 8 if the text is no setup; NMS_NO_MEMORY. Closed terms stay closed then. Takes memory. No other call may run on these
+ * terms. */
+static inline uint32_t nms_terms_open(const char *setup, size_t setup_bytes, nms_terms *terms)
+{
+    if (!terms || (!setup && setup_bytes > 0)) {
+        return NMS_NULL;
+    }
+    if (nms_abi() != NMS_ABI) {
+        return NMS_WRONG_ABI;
+    }
+    return nms_raw_terms_open((const uint8_t *)nms_from(setup), setup_bytes, terms);
+}
+
+/* Closes terms and gives their memory back. Codes: NMS_CLOSED. No other call may run on these terms. */
+static inline uint32_t nms_terms_close(nms_terms *terms)
+{
+    return terms ? nms_raw_terms_close(terms) : (uint32_t)NMS_NULL;
+}
+
+/* As nms_find_part, of the roster of terms. Any number of threads may call at once. */
+static inline uint32_t nms_terms_find_part(const nms_terms *terms, const char *name, size_t name_bytes, uint8_t *part)
+{
+    if (!terms || (!name && name_bytes > 0) || !part) {
+        return NMS_NULL;
+    }
+    nms_terms look = *terms;
+    return nms_raw_terms_find_part(&look, (const uint8_t *)nms_from(name), name_bytes, part);
+}
+
+/* As nms_find_sym, of the roster of terms. Any number of threads may call at once. */
+static inline uint32_t nms_terms_find_sym(const nms_terms *terms, const char *name, size_t name_bytes, uint16_t *sym)
+{
+    if (!terms || (!name && name_bytes > 0) || !sym) {
+        return NMS_NULL;
+    }
+    nms_terms look = *terms;
+    return nms_raw_terms_find_sym(&look, (const uint8_t *)nms_from(name), name_bytes, sym);
+}
+
+/* As nms_part_name, of the roster of terms. Any number of threads may call at once. */
+static inline uint32_t nms_terms_part_name(const nms_terms *terms, uint8_t part, char *out, size_t room, size_t *bytes)
+{
+    if (!terms || !out || !bytes) {
+        return NMS_NULL;
+    }
+    nms_terms look = *terms;
+    return nms_raw_terms_part_name(&look, part, (uint8_t *)out, room, bytes);
+}
+
+/* As nms_sym_name, of the roster of terms. Any number of threads may call at once. */
+static inline uint32_t nms_terms_sym_name(const nms_terms *terms, uint16_t sym, char *out, size_t room, size_t *bytes)
+{
+    if (!terms || !out || !bytes) {
+        return NMS_NULL;
+    }
+    nms_terms look = *terms;
+    return nms_raw_terms_sym_name(&look, sym, (uint8_t *)out, room, bytes);
+}
+
+/* Plans an order on a view, as nms_plan_order does on the board that showed it. Any number of threads may call at once.
+ * Codes, the first that holds: NMS_CLOSED; NMS_NO_VIEW; NMS_RANGE, NMS_NO_PART (self_help), NMS_NO_SYM of the order, also if it
+ * is of another symbol than the view. */
+static inline uint32_t nms_plan_view(const nms_terms *terms, const nms_view *view, const nms_order *order, nms_plan *plan)
+{
+    if (!terms || !view || !order || !plan) {
+        return NMS_NULL;
+    }
+    nms_terms look = *terms;
+    return nms_raw_plan_view(&look, view, order, plan);
+}
+
+/* Confirms a plan on a view, as nms_confirm does on the board that showed it. Any number of threads may call at once. A plan of
+ * another version is doubted (K1, P1), and an order of another symbol too (K1, P2).
+ * Codes, the first that holds: NMS_CLOSED; NMS_NO_VIEW; NMS_RANGE, NMS_NO_PART and NMS_NO_SYM if the numbers say no order and no
+ * plan; NMS_DOUBTED, and then *doubt says why; NMS_OK. *doubt is written at NMS_OK and NMS_DOUBTED only. */
+static inline uint32_t nms_confirm_view(const nms_terms *terms, const nms_view *view, const nms_order *order, const nms_plan *plan, nms_doubt *doubt)
+{
+    if (!terms || !view || !order || !plan || !doubt) {
+        return NMS_NULL;
+    }
+    nms_terms look = *terms;
+    return nms_raw_confirm_view(&look, view, order, plan, doubt);
+}
+
+/* Writes the protected quotations of a view that an execution at a price trades through, as nms_traded_through does on the
+ * board that showed it. Any number of threads may call at once. Codes, the first that holds: NMS_NO_VIEW, NMS_RANGE (the
+ * price). */
+static inline uint32_t nms_through_view(const nms_view *view, uint64_t millionths, nms_through *through)
+{
+    return view && through ? nms_raw_through_view(view, millionths, through) : (uint32_t)NMS_NULL;
 }
 
 #ifdef __cplusplus

@@ -1,5 +1,5 @@
-// nms.hpp: an owner of a board for C++17. It opens in its constructor, closes in its destructor, can be moved and not
-// copied, and throws nms::Error when a call answers anything but NMS_OK. Everything else is in nms.h.
+// nms.hpp: owners of a board and of terms for C++17. Each opens in its constructor, closes in its destructor, can be moved and
+// not copied, and throws nms::Error when a call answers anything but NMS_OK. What a call does is in nms.h.
 #pragma once
 
 #include <nms.h>
@@ -87,6 +87,15 @@ inline void must(std::uint32_t code)
         throw Error(code);
 }
 
+// The version of the library, such as 0.2.0.
+inline std::string version()
+{
+    char text[NMS_CODE_TEXT_ROOM];
+    std::size_t bytes = 0;
+    must(nms_version(text, sizeof text, &bytes));
+    return std::string(text, bytes);
+}
+
 // As `must`, with the field that is out of its range.
 template <class Numbers> void must(std::uint32_t code, const Numbers &numbers)
 {
@@ -94,20 +103,28 @@ template <class Numbers> void must(std::uint32_t code, const Numbers &numbers)
         throw Error(code, code == NMS_RANGE ? field_of(numbers) : "");
 }
 
+// What a call on a text of a setup is answered: its code, and the place at which the text is no setup.
+inline void must_open(std::uint32_t code, std::string_view setup)
+{
+    nms_place place;
+    if (code >= NMS_C1_NOT_TOML && code <= NMS_C8_TOO_MANY && nms_setup_place(setup.data(), setup.size(), &place) == NMS_OK)
+        throw Error(code, place);
+    must(code);
+}
+
+// How far a call with many changes came: how many were applied, and the code of the next one, NMS_OK if there is none.
+struct Applied {
+    std::size_t count;
+    std::uint32_t code;
+};
+
 // A board. Its `const` methods are looks: they may run together in several threads, as long as no other method runs. So a
 // std::shared_mutex may be locked shared for them, and has to be locked for all else.
 class Board {
 public:
     // Opens a board from the text of a setup. Only this call takes memory of the library. It throws NMS_WRONG_ABI if the
     // library has another layout than nms.h.
-    explicit Board(std::string_view setup)
-    {
-        const std::uint32_t code = nms_open(setup.data(), setup.size(), &raw_);
-        nms_place place;
-        if (code >= NMS_C1_NOT_TOML && code <= NMS_C8_TOO_MANY && nms_setup_place(setup.data(), setup.size(), &place) == NMS_OK)
-            throw Error(code, place);
-        must(code);
-    }
+    explicit Board(std::string_view setup) { must_open(nms_open(setup.data(), setup.size(), &raw_), setup); }
 
     ~Board() { nms_close(&raw_); }
 
@@ -164,6 +181,17 @@ public:
     void apply(const nms_change &change) { must(nms_apply(&raw_, &change), change); }
     void apply(std::string_view record) { must(nms_apply_text(&raw_, record.data(), record.size())); }
 
+    // The same with a code in place of an exception. They make no text and take no memory.
+    std::uint32_t try_apply(const nms_change &change) noexcept { return nms_apply(&raw_, &change); }
+    std::uint32_t try_apply(std::string_view record) noexcept { return nms_apply_text(&raw_, record.data(), record.size()); }
+    // Changes in order, up to the first that is refused.
+    Applied try_apply(const nms_change *changes, std::size_t count) noexcept
+    {
+        Applied applied{ 0, NMS_OK };
+        applied.code = nms_apply_all(&raw_, changes, count, &applied.count);
+        return applied;
+    }
+
     nms_best best(std::uint16_t sym) const
     {
         nms_best best;
@@ -176,8 +204,38 @@ public:
         must(nms_view_of(&raw_, sym, &view));
         return view;
     }
+    // The row at a place of the rank order, from 0 on; nothing if the side has fewer rows.
+    std::optional<nms_row> ranked(std::uint16_t sym, nms_side side, std::uint8_t place) const
+    {
+        nms_row row;
+        const std::uint32_t code = nms_ranked(&raw_, sym, static_cast<std::uint8_t>(side), place, &row);
+        if (code == NMS_NONE)
+            return std::nullopt;
+        must(code);
+        return row;
+    }
+    nms_rows rows(std::uint16_t sym, nms_side side) const
+    {
+        nms_rows rows;
+        must(nms_rows_of(&raw_, sym, static_cast<std::uint8_t>(side), &rows));
+        return rows;
+    }
+    // What an execution at a price in 1/1,000,000 dollar trades through.
+    nms_through through(std::uint16_t sym, std::uint64_t millionths) const
+    {
+        nms_through through;
+        must(nms_traded_through(&raw_, sym, millionths, &through));
+        return through;
+    }
+    // What one share costs with a participant's fee, in nanodollars; negative for a sale.
+    std::int64_t unit_cost(std::uint8_t part, nms_order_side side, std::uint64_t price) const
+    {
+        std::int64_t nanodollars = 0;
+        must(nms_unit_cost(&raw_, part, static_cast<std::uint8_t>(side), price, &nanodollars));
+        return nanodollars;
+    }
 
-    nms_plan plan(const nms_order &order)
+    nms_plan plan(const nms_order &order) const
     {
         nms_plan plan;
         must(nms_plan_order(&raw_, &order, &plan), order);
@@ -202,6 +260,14 @@ public:
         return text;
     }
 
+    // The order and the plan that such a text says. The plan need not be lawful: `doubt` judges that.
+    std::pair<nms_order, nms_plan> read(std::string_view text)
+    {
+        std::pair<nms_order, nms_plan> said;
+        must(nms_read_plan(&raw_, text.data(), text.size(), &said.first, &said.second));
+        return said;
+    }
+
     // The changes by which a new board of the same setup gets this symbol's rows.
     std::vector<nms_change> opening(std::uint16_t sym) const
     {
@@ -210,12 +276,96 @@ public:
         return std::vector<nms_change>(opening.change, opening.change + opening.count);
     }
 
-    // For a call of nms.h that has no method here.
+    // The handle, for calls of nms.h.
     nms_board *raw() noexcept { return &raw_; }
     const nms_board *raw() const noexcept { return &raw_; }
 
 private:
     nms_board raw_ = NMS_BOARD_CLOSED;
 };
+
+// The roster and the fees of a setup, which never change. Any number of threads may plan and confirm with them at once, each on
+// a view of its own.
+class Terms {
+public:
+    explicit Terms(std::string_view setup) { must_open(nms_terms_open(setup.data(), setup.size(), &raw_), setup); }
+
+    ~Terms() { nms_terms_close(&raw_); }
+
+    // As with a board, terms that were moved from are closed.
+    Terms(Terms &&other) noexcept : raw_(std::exchange(other.raw_, nms_terms NMS_TERMS_CLOSED)) {}
+    Terms &operator=(Terms &&other) noexcept
+    {
+        if (this != &other) {
+            nms_terms_close(&raw_);
+            raw_ = std::exchange(other.raw_, nms_terms NMS_TERMS_CLOSED);
+        }
+        return *this;
+    }
+    Terms(const Terms &) = delete;
+    Terms &operator=(const Terms &) = delete;
+
+    // The number of a name: look it up once.
+    std::uint8_t part(std::string_view name) const
+    {
+        std::uint8_t number = 0;
+        must(nms_terms_find_part(&raw_, name.data(), name.size(), &number));
+        return number;
+    }
+    std::uint16_t sym(std::string_view name) const
+    {
+        std::uint16_t number = 0;
+        must(nms_terms_find_sym(&raw_, name.data(), name.size(), &number));
+        return number;
+    }
+
+    std::string part_name(std::uint8_t number) const
+    {
+        char name[NMS_NAME_ROOM];
+        std::size_t bytes = 0;
+        must(nms_terms_part_name(&raw_, number, name, sizeof name, &bytes));
+        return std::string(name, bytes);
+    }
+    std::string sym_name(std::uint16_t number) const
+    {
+        char name[NMS_NAME_ROOM];
+        std::size_t bytes = 0;
+        must(nms_terms_sym_name(&raw_, number, name, sizeof name, &bytes));
+        return std::string(name, bytes);
+    }
+
+    // The best lawful plan for an order on a view. It throws NMS_NO_VIEW if no look shows such a view, as of a torn copy.
+    nms_plan plan(const nms_view &view, const nms_order &order) const
+    {
+        nms_plan plan;
+        must(nms_plan_view(&raw_, &view, &order, &plan), order);
+        return plan;
+    }
+    // Nothing if the plan is confirmed on this view, else why it is not.
+    std::optional<nms_doubt> doubt(const nms_view &view, const nms_order &order, const nms_plan &plan) const
+    {
+        nms_doubt doubt;
+        const std::uint32_t code = nms_confirm_view(&raw_, &view, &order, &plan, &doubt);
+        if (code == NMS_DOUBTED)
+            return doubt;
+        must(code, order);
+        return std::nullopt;
+    }
+
+    // The handle, for calls of nms.h.
+    nms_terms *raw() noexcept { return &raw_; }
+    const nms_terms *raw() const noexcept { return &raw_; }
+
+private:
+    nms_terms raw_ = NMS_TERMS_CLOSED;
+};
+
+// What an execution at a price in 1/1,000,000 dollar trades through on a view.
+inline nms_through through(const nms_view &view, std::uint64_t millionths)
+{
+    nms_through through;
+    must(nms_through_view(&view, millionths, &through));
+    return through;
+}
 
 } // namespace nms

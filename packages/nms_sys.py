@@ -42,7 +42,7 @@ class Header:
 
     def end(self):
         """Stops if anything is left but what C itself needs."""
-        self.take(r"^#(?:include|ifndef|ifdef|else|endif|define NMS_H$|define NMS_HOLDS\(|define NMS_BOARD_CLOSED)[^\n]*$")
+        self.take(r"^#(?:include|ifndef|ifdef|else|endif|define NMS_H$|define NMS_HOLDS\(|define NMS_(?:BOARD|TERMS)_CLOSED)[^\n]*$")
         self.take(r"^extern \"C\" \{$")
         if self.left.strip():
             sys.exit(f"nms_sys.py: include/nms.h has text of no known form: {self.left.strip()[:200]!r}")
@@ -73,8 +73,8 @@ def enums(header):
 
 
 def struct(name, body):
-    """A struct. The handle is never copied, so it alone is not Copy."""
-    is_handle = name == "nms_board"
+    """A struct. The two handles are never copied, so only they are not Copy."""
+    is_handle = name in ("nms_board", "nms_terms")
     yield f"\n#[repr(C)]\n#[derive({'Debug' if is_handle else 'Clone, Copy, Debug, PartialEq, Eq'})]\npub struct {name} {{"
     for item in filter(None, (it.strip() for it in body.split(";"))):
         kind, names = fitting(r"(\w+) (.*)", item)

@@ -128,6 +128,7 @@ def library(release) -> Tree:
         "lib/cmake/nms/nmsConfigVersion.cmake": Entry(filled("nmsConfigVersion.cmake", release)),
         "include/nms.h": Entry(read(f"{TOP}/include/nms.h")),
         "include/nms.hpp": Entry(read(f"{TOP}/include/nms.hpp")),
+        "include/nms_shared.h": Entry(read(f"{TOP}/include/nms_shared.h")),
     }
 
 

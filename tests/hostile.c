@@ -597,7 +597,7 @@ static void looks(nms_board *board)
                "what was written of a plan in so much room");
     }
     for (uint32_t code = 0; code < 200; ++code) {
-        const int is_known = code <= 20 || (code >= 101 && code <= 111) || code == 114;
+        const int is_known = code <= NMS_NO_VIEW || (code >= 101 && code <= 111) || code == 114;
         const uint32_t answer = nms_code_text(code, whole, NMS_CODE_TEXT_ROOM, &need);
         equals(answer, is_known ? NMS_OK : NMS_NONE, "the text of a code");
         for (size_t size = 0; is_known && answer == NMS_OK && size <= need + 1; ++size) {

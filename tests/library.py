@@ -1,6 +1,6 @@
 #!/usr/bin/env python3
 """Tests the library for other languages, as a part of the gate: its header against its archive, its four callers, its wrappers,
-looks that run together, a hostile caller, and its answers beside the program's.
+looks that run together, views as values, a hostile caller, and its answers beside the program's.
 
     tests/library.py PROGRAM        PROGRAM is nms_tool, which the gate has built
     NMS_OUT=FOLDER tests/library.py PROGRAM      takes libnms.a and libnms.so from there, and builds nothing
@@ -117,6 +117,13 @@ class Library:
         """What a Python has to know to find the package and the library."""
         return {"NMS_LIBRARY": self.shared, "PYTHONPATH": f"{TOP}/python", "PYTHONDONTWRITEBYTECODE": "1"}
 
+    def long_setup(self):
+        """The built-in setup with room for as many changes as there may be."""
+        setup = f"{self.room}/long.toml"
+        with open(f"{TOP}/examples/builtin.toml", encoding="utf-8") as builtin, open(setup, "w", encoding="utf-8") as to:
+            to.write(re.sub(r"^tape_limit = .*$", "tape_limit = 10000000", builtin.read(), flags=re.M))
+        return setup
+
     def c(self, name, to, *more):
         """The command that builds a program of C with the library."""
         return [self.cc, "-std=c11", *WARNINGS, "-I", f"{TOP}/include", *more, f"{TOP}/{name}", self.archive, "-o", f"{self.room}/{to}"]
@@ -161,8 +168,18 @@ class Library:
         for comment, name, arguments in calls:
             stores = re.search(r"(?<!const )nms_board \*", arguments)
             check(f"{name} says which lock it needs", bool(stores) == ("exclusive lock" in comment), comment)
+            stores = re.search(r"(?<!const )nms_terms \*", arguments)
+            check(f"{name} says that it stores into terms", bool(stores) == ("No other call may run" in comment), comment)
+            free = re.search(r"const nms_(?:terms|view) \*", arguments)
+            check(f"{name} says that calls may run at once", bool(free) == ("may call at once" in comment), comment)
+        for wrapper, form in (("include/nms.hpp", r"\b{}\("), ("rust/nms/src/lib.rs", r"sys::{}\(")):
+            with open(f"{TOP}/{wrapper}", encoding="utf-8") as file:
+                text = file.read()
+            names = [name if wrapper.endswith("hpp") else name.replace("nms_", "nms_raw_", 1) for _, name, _ in calls]
+            lacks = [name for name in names if not re.search(form.format(name), text)]
+            check(f"{wrapper} has each call", not lacks, lacks)
         looks = [name for _, name, arguments in calls if "const nms_board *" in arguments]
-        check("nms.h has 24 calls, and 13 are looks", (len(calls), len(looks)) == (24, 13), looks)
+        check("nms.h has 33 calls, and 14 are looks", (len(calls), len(looks)) == (33, 14), looks)
         if not self.cc:
             skip("the header in C", "C compiler")
             return
@@ -193,7 +210,7 @@ class Library:
             return
         status, came = run([f"{self.room}/stack", f"{TOP}/examples/builtin.toml"])
         rows = re.findall(r"^(nms_\w+) (\d+)$", came, re.M)
-        setups = {f"{name}_of_a_setup" for name in ("nms_open", "nms_setup_place")}
+        setups = {f"{name}_of_a_setup" for name in ("nms_open", "nms_setup_place", "nms_terms_open")}
         check("the stack of each call is measured", status == 0 and {name for name, _ in rows} == calls | setups, came[-500:])
         for name, size in rows:
             most = least if name in setups else said.get(name, said.get("any other call", 0))
@@ -212,6 +229,42 @@ class Library:
             else:
                 skip("looks that run together, under helgrind", "valgrind")
 
+    def views(self):
+        """Calls on views beside those on boards, views that no look shows, and eight threads."""
+        setup = self.long_setup()
+        if not self.cc:
+            skip("calls on views", "C compiler")
+            return
+        if built("tests/views.c is built", self.c("tests/views.c", "views", "-O1", "-pedantic", "-pthread")):
+            counted("calls on views", [f"{self.room}/views", setup])
+        # The library itself is not instrumented: its stores are seen by helgrind, those of the header and the caller here.
+        status, said = run(self.c("tests/views.c", "views-tsan", "-O1", "-g", "-fsanitize=thread", "-pthread"))
+        if status != 0 and re.search("tsan|sanitize", said):
+            skip("calls on views, under the thread sanitizer", "thread sanitizer")
+        elif check("tests/views.c is built for the thread sanitizer", status == 0, said):
+            environment = {**os.environ, "TSAN_OPTIONS": "exitcode=99"}
+            counted("calls on views, under the thread sanitizer", [f"{self.room}/views-tsan", setup, "200"], env=environment)
+        if tool("valgrind"):
+            words = ["valgrind", "-q", "--tool=helgrind", "--error-exitcode=99"]
+            counted("calls on views, under helgrind", [*words, f"{self.room}/views", setup, "20"])
+        else:
+            skip("calls on views, under helgrind", "valgrind")
+
+    def between_threads(self):
+        """Views that one thread publishes and three read, judged afterwards by the changes applied again."""
+        if not self.cc:
+            skip("views between threads", "C compiler")
+            return
+        setup = self.long_setup()
+        if built("tests/shared.c is built", self.c("tests/shared.c", "shared", "-O1", "-pedantic", "-pthread")):
+            counted("views between threads", [f"{self.room}/shared", setup])
+        status, said = run(self.c("tests/shared.c", "shared-tsan", "-O1", "-g", "-fsanitize=thread", "-pthread"))
+        if status != 0 and re.search("tsan|sanitize", said):
+            skip("views between threads, under the thread sanitizer", "thread sanitizer")
+        elif check("tests/shared.c is built for the thread sanitizer", status == 0, said):
+            environment = {**os.environ, "TSAN_OPTIONS": "exitcode=99"}
+            counted("views between threads, under the thread sanitizer", [f"{self.room}/shared-tsan", setup, "2000"], env=environment)
+
     def wrappers(self):
         """The wrappers' own tests: wrong arguments, and what an error names."""
         setup = f"{TOP}/examples/builtin.toml"
@@ -221,7 +274,7 @@ class Library:
             words = [self.cxx, "-std=c++17", *WARNINGS, "-pedantic", "-I", f"{TOP}/include", f"{TOP}/tests/owner.cpp", self.archive]
             if built("tests/owner.cpp is built", [*words, "-Wl,--wrap=nms_abi", "-o", f"{self.room}/owner"]):
                 counted("the class in C++", [f"{self.room}/owner", setup])
-        counted("the package in Python", [sys.executable, f"{TOP}/tests/wrapper.py", setup], env={**os.environ, **self.python()})
+        counted("the package in Python", [sys.executable, f"{TOP}/tests/wrapper.py", setup, f"{TOP}/include/nms.h"], env={**os.environ, **self.python()})
 
     def callers(self, program):
         """Each caller, with what it must print."""
@@ -230,6 +283,8 @@ class Library:
             skip("the caller in C", "C compiler")
         elif built("examples/c/board.c is built", self.c("examples/c/board.c", "board", "-pedantic")):
             prints("the caller in C", [f"{self.room}/board", setup], "examples/c/board.out")
+            if built("examples/c/view.c is built", self.c("examples/c/view.c", "view", "-pedantic")):
+                prints("the caller with a view", [f"{self.room}/view", setup], "examples/c/view.out")
         if not self.cxx:
             skip("the caller in C++", "C++ compiler")
         else:
@@ -252,8 +307,9 @@ class Library:
         status, said = run(["cargo", "build", *words, "--example", "trade"], env=environment)
         if check("rust/nms is built", status == 0 and not said, said):
             prints("the caller in Rust", [f"{folder}/made/debug/examples/trade", setup], "rust/nms/examples/trade.out")
-        status, said = run(["cargo", "test", *words, "--doc"], env=environment)
-        check("the example on the first page of rust/nms", status == 0 and "1 passed" in said, said)
+        for what, tests, many in (("the example on the first page", ["--doc"], 1), ("each call", ["--test", "calls"], 5)):
+            status, said = run(["cargo", "test", *words, *tests], env=environment)
+            check(f"{what} of rust/nms", status == 0 and f"{many} passed" in said, said)
 
     def page(self, program):
         """Follows docs/CALLING.md word for word in a copy of what it names: each part's commands, and what the last must give."""
@@ -320,6 +376,8 @@ def main(program):
             library.header()
             library.stacks()
             library.readers()
+            library.views()
+            library.between_threads()
             library.wrappers()
             library.callers(program)
             library.page(program)

@@ -1,5 +1,5 @@
-// The class of include/nms.hpp: its looks are const, an empty text is a text, and an error names the place of a setup or
-// the field of a number. Link it with -Wl,--wrap=nms_abi.
+// The classes of include/nms.hpp: each call gives what the header says, looks are const, an empty text is a text, and an error
+// names the place of a setup or the field of a number. Link it with -Wl,--wrap=nms_abi.
 //
 //     owner SETUP     the built-in setup; prints a line for each difference, and last `N passed, M failed`
 #include <nms.hpp>
@@ -45,12 +45,48 @@ void looks(const nms::Board &board, const nms_order &order, const nms_plan &plan
     holds(board.part("P") == 1 && board.part_name(1) == "P" && board.sym_name(abc) == "ABC", "names by a const board");
     holds(board.counts().applied == 1 && board.best(abc).offer.price == 100000 && board.view(abc).offer.count == 1, "looks at a const board");
     holds(!board.doubt(order, plan) && board.opening(abc).size() == 1, "a plan and an opening by a const board");
-    nms_rows rows;
-    holds(nms_rows_of(board.raw(), abc, NMS_OFFER, &rows) == NMS_OK && rows.count == 1, "the raw handle of a const board");
+    const nms_rows rows = board.rows(abc, NMS_OFFER);
+    const auto row = board.ranked(abc, NMS_OFFER, 0);
+    holds(rows.count == 1 && row && row->price == rows.price[0] && !board.ranked(abc, NMS_OFFER, 1), "the rows of a side");
+    holds(board.through(abc, 10010000).offers == 1 && board.through(abc, 10000000).offers == 0, "what a price trades through");
+    holds(board.unit_cost(0, NMS_BUY, 100000) > 10000000000, "what a share costs with its fee");
+    std::uint8_t part = 9;
+    holds(nms_find_part(board.raw(), "P", 1, &part) == NMS_OK && part == 1, "the raw handle of a const board");
+    throws(NMS_RANGE, "a number is out of its range", [&] { board.rows(abc, static_cast<nms_side>(2)); });
+    throws(NMS_RANGE, "a number is out of its range", [&] { board.ranked(abc, static_cast<nms_side>(2), 0); });
+    throws(NMS_RANGE, "a number is out of its range", [&] { board.through(abc, 0); });
+    throws(NMS_RANGE, "a number is out of its range", [&] { board.unit_cost(0, NMS_BUY, 0); });
+    throws(NMS_NO_SYM, "symbol", [&] { board.rows(999, NMS_BID); });
+    throws(NMS_NO_PART, "participant", [&] { board.unit_cost(200, NMS_BUY, 100000); });
+}
+
+// Plans and checks on a view, by terms that can't be changed.
+void views(const nms::Terms &terms, const nms_view &view, const nms_order &order, const nms_plan &plan)
+{
+    holds(terms.part("P") == 1 && terms.sym("ABC") == view.sym, "numbers by terms");
+    holds(terms.part_name(1) == "P" && terms.sym_name(view.sym) == "ABC", "names by terms");
+    throws(NMS_NO_PART, "participant", [&] { terms.part_name(200); });
+    throws(NMS_NO_SYM, "symbol", [&] { terms.sym_name(999); });
+    const nms_plan same = terms.plan(view, order);
+    holds(same.filled == plan.filled && same.cost_low == plan.cost_low && !terms.doubt(view, order, same), "a plan on a view");
+    nms_plan other = same;
+    other.version += 1;
+    const auto doubt = terms.doubt(view, order, other);
+    holds(doubt && doubt->doubt == 1 && doubt->breach == 1, "a plan of another version on a view");
+    holds(nms::through(view, 10010000).offers == 1 && nms::through(view, 10000000).offers == 0, "what a price trades through on a view");
+    nms_view torn = view;
+    torn.offer.total += 1;
+    throws(NMS_NO_VIEW, "no look shows such a view", [&] { terms.plan(torn, order); });
+    throws(NMS_NO_VIEW, "no look shows such a view", [&] { terms.doubt(torn, order, plan); });
+    throws(NMS_NO_VIEW, "no look shows such a view", [&] { nms::through(torn, 10010000); });
+    nms_order bad = order;
+    bad.shares = 0;
+    throws(NMS_RANGE, ": shares", [&] { terms.plan(view, bad); });
 }
 
 void setups(const std::string &setup)
 {
+    throws(NMS_C2_MISSING, ": tape_limit", [] { nms::Terms{ "" }; });
     throws(NMS_C2_MISSING, ": tape_limit", [] { nms::Board{ std::string_view{} }; });
     throws(NMS_C2_MISSING, ": tape_limit", [] { nms::Board{ "" }; });
     throws(NMS_C1_NOT_TOML, ": at byte 6", [] { nms::Board{ "queue 9\n" }; });
@@ -103,6 +139,30 @@ void fields(nms::Board &board)
     throws(NMS_NO_SYM, "symbol", [&] { board.sym(std::string_view{}); });
 }
 
+// Changes with a code in place of an exception, and a plan that is written and read.
+void codes(nms::Board &board, const nms_order &order)
+{
+    nms_change changes[3]{};
+    for (nms_change &it : changes) {
+        it.part = 1;
+        it.bid_price = 99900;
+        it.bid_shares = 100;
+    }
+    changes[1].kind = 4;
+    const std::uint64_t before = board.counts().applied;
+    const nms::Applied some = board.try_apply(changes, 3);
+    holds(some.count == 1 && some.code == NMS_RANGE && board.counts().applied == before + 1, "changes up to the first that is refused");
+    const nms::Applied none = board.try_apply(nullptr, 0);
+    holds(none.count == 0 && none.code == NMS_OK, "no changes");
+    holds(board.try_apply(changes[0]) == NMS_OK && board.try_apply(changes[1]) == NMS_RANGE, "a change by a code");
+    holds(board.try_apply("Q,P,ABC,A,,,,") == NMS_OK && board.try_apply("Q,P,ABC,X,,,,") == NMS_L5_BAD_STATE, "a record by a code");
+    const nms_plan plan = board.plan(order);
+    const auto said = board.read(board.text(order, plan));
+    holds(said.first.limit == order.limit && said.second.filled == plan.filled && !board.doubt(said.first, said.second), "a plan read from its text");
+    throws(NMS_L11_BAD_PLAN_TEXT, "plan", [&] { board.read("PLAN"); });
+    holds(nms::version() == NMS_VERSION, "the library's version");
+}
+
 } // namespace
 
 std::uint32_t __wrap_nms_abi(void)
@@ -123,8 +183,14 @@ int main(int count, char **words)
     order.limit = 100000;
     order.shares = 100;
     looks(board, order, board.plan(order));
+    nms::Terms terms(setup);
+    views(terms, board.view(board.sym("ABC")), order, board.plan(order));
+    nms::Terms moved(std::move(terms));
+    throws(NMS_CLOSED, "open", [&] { terms.part("P"); });
+    holds(moved.part("P") == 1, "terms that were moved");
     fields(board);
     holds(board.counts().applied == 1, "a refused call changes nothing");
+    codes(board, order);
     std::printf("%u passed, %u failed\n", passed, failed);
     return failed != 0;
 }

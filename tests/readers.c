@@ -1,4 +1,4 @@
-/* Looks that run together: four threads make all 13 looks at one board under a reader's lock, while a fifth applies changes
+/* Looks that run together: four threads make all 14 looks at one board under a reader's lock, while a fifth applies changes
  * under the writer's. What a reader is answered has to be, byte for byte, what a single thread is answered at that version.
  *
  *     readers SETUP [ROUNDS]      the built-in setup; each reader makes all looks ROUNDS times, 10,000 by default
@@ -44,7 +44,7 @@ static uint64_t add(uint64_t sum, const void *at, size_t size)
         sum = add(sum, &(out), sizeof(out));  \
     } while (0)
 
-/* A sum of what the 13 looks answer at both symbols. The version that they show goes to *version. */
+/* A sum of what the 14 looks answer at both symbols. The version that they show goes to *version. */
 static uint64_t looked(const nms_board *at, uint64_t *version)
 {
     uint64_t sum = 1469598103934665603ul;
@@ -67,6 +67,7 @@ static uint64_t looked(const nms_board *at, uint64_t *version)
         nms_view view;
         nms_through through;
         nms_opening opening;
+        nms_plan made;
         int64_t cost;
         uint16_t found;
         LOOK(nms_best_of(at, sym, &best), best);
@@ -76,6 +77,7 @@ static uint64_t looked(const nms_board *at, uint64_t *version)
         LOOK(nms_traded_through(at, sym, 9999000, &through), through);
         LOOK(nms_unit_cost(at, 2, NMS_BUY, 100000, &cost), cost);
         LOOK(nms_opening_of(at, sym, &opening), opening);
+        LOOK(nms_plan_order(at, &order, &made), made);
         LOOK(nms_sym_name(at, sym, name, sizeof name, &bytes), name);
         LOOK(nms_find_sym(at, name, bytes, &found), found);
     }

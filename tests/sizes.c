@@ -164,7 +164,7 @@ int main(int count, char **words)
               rows.is_protected[0] == 0 && rows.price[2] == 0 && rows.spare == 0, "nms_rows: its arrays");
     nms_view view;
     holds(nms_view_of(&board, 1, &view) == NMS_OK && view.version == 3 && view.market == NMS_NORMAL && view.bid.price[1] == 99009 &&
-              view.offer.price[1] == 100811 && view.offer.count == 2 && view.offer.total == 602 + 1414, "nms_view");
+              view.offer.price[1] == 100811 && view.offer.count == 2 && view.offer.total == 602 + 1414 && view.sym == 1 && view.spare == 0, "nms_view");
     nms_through through;
     holds(nms_traded_through(&board, 1, 10090000, &through) == NMS_OK && through.version == 3 && through.bids == 0 &&
               through.offers == 1 && through.offer[0].price == 100811 && through.offer[0].part == 3, "nms_through");
@@ -191,6 +191,8 @@ int main(int count, char **words)
                   reopened.offer.size[place] == view.offer.size[place] && reopened.offer.part[place] == view.offer.part[place] &&
                   reopened.offer.is_protected[place] == view.offer.is_protected[place], "it has the same rows in the same order");
     nms_close(&again);
+    nms_terms terms = NMS_TERMS_CLOSED;
+    holds(nms_terms_open(setup, bytes, &terms) == NMS_OK, "terms are opened");
 
     /* nms_order as it is read, and nms_plan as it is written and read: the text says every field. */
     nms_order order = { .limit = 100812, .shares = 1617, .self_help = 1u << 1, .sym = 1, .side = NMS_BUY, .manual = 1 };
@@ -231,6 +233,12 @@ int main(int count, char **words)
     holds(memcmp(&read_plan, &plan, sizeof plan) == 0, "a plan is read back as it was");
 
     WRITES(nms_doubt, nms_confirm(&board, &order, &plan, out));
+    WRITES(nms_plan, nms_plan_view(&terms, &view, &order, out));
+    WRITES(nms_doubt, nms_confirm_view(&terms, &view, &order, &plan, out));
+    WRITES(nms_through, nms_through_view(&view, 10090000, out));
+    WRITES(uint8_t, nms_terms_find_part(&terms, "Y", 1, out));
+    WRITES(uint16_t, nms_terms_find_sym(&terms, "PNY", 3, out));
+    holds(nms_terms_close(&terms) == NMS_OK, "terms are closed");
     nms_doubt doubt;
     plan.leg[1].shares -= 1;
     holds(nms_confirm(&board, &order, &plan, &doubt) == NMS_DOUBTED && doubt.doubt >= 1, "nms_doubt: doubt");

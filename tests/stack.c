@@ -36,6 +36,8 @@ static void measure(void (*call)(void))
 }
 
 static nms_board board, other;
+static nms_terms terms, more_terms;
+static nms_view view;
 static nms_order order, out_order;
 static nms_plan plan, out_plan;
 static nms_doubt doubt;
@@ -81,6 +83,15 @@ static void nms_unit_cost_(void) { code = nms_unit_cost(&board, 31, NMS_SELL, 10
 static void nms_plan_text_(void) { code = nms_plan_text(&board, &order, &plan, out, sizeof out, &out_bytes); }
 static void nms_read_plan_(void) { code = nms_read_plan(&board, text, bytes, &out_order, &out_plan); }
 static void nms_opening_of_(void) { code = nms_opening_of(&board, 0, &it.opening); }
+static void nms_terms_open_(void) { code = nms_terms_open(text, bytes, &more_terms); }
+static void nms_terms_close_(void) { code = nms_terms_close(&more_terms); }
+static void nms_terms_find_part_(void) { code = nms_terms_find_part(&terms, "P31", 3, (uint8_t *)&it.number); }
+static void nms_terms_find_sym_(void) { code = nms_terms_find_sym(&terms, "ABCDEFGH", 8, &it.number); }
+static void nms_terms_part_name_(void) { code = nms_terms_part_name(&terms, 31, out, sizeof out, &out_bytes); }
+static void nms_terms_sym_name_(void) { code = nms_terms_sym_name(&terms, 0, out, sizeof out, &out_bytes); }
+static void nms_plan_view_(void) { code = nms_plan_view(&terms, &view, &order, &plan); }
+static void nms_confirm_view_(void) { code = nms_confirm_view(&terms, &view, &order, &plan, &doubt); }
+static void nms_through_view_(void) { code = nms_through_view(&view, 9900000, &it.through); }
 
 /* Measures a call, and ends the program if it was refused and may not be. */
 static void takes(const char *name, void (*call)(void), int may_be_refused)
@@ -141,6 +152,8 @@ static void every_setup(const char *name, void (*call)(void), const char *setup,
     printf("%s_of_a_setup %zu\n", name, most - empty);
     if (call == nms_open_)
         nms_close(&other);
+    if (call == nms_terms_open_)
+        nms_terms_close(&more_terms);
     for (unsigned kind = 0; kind < KINDS; ++kind)
         for (unsigned deep = 40; deep <= 5120; deep *= 2) {
             nest(kind, deep);
@@ -160,7 +173,8 @@ static void fill_board(void)
     for (unsigned at = 0; at < NMS_MOST_PARTS; ++at)
         bytes += (size_t)sprintf(text + bytes, "[[participant]]\nname = \"P%02u\"\nfeed = \"A\"\nfee = %u\nrate = -%u\n", at, at * 1000, at);
     bytes += (size_t)sprintf(text + bytes, "[[symbol]]\nname = \"ABCDEFGH\"\nlot = 100\n");
-    code = nms_open(text, bytes, &board);
+    code = nms_terms_open(text, bytes, &terms);
+    code = code == NMS_OK ? nms_open(text, bytes, &board) : code;
     change.sym = 0;
     for (unsigned at = 0; at < 2 * NMS_MOST_PARTS && code == NMS_OK; ++at) {
         change.part = (uint8_t)(at % NMS_MOST_PARTS);
@@ -227,6 +241,15 @@ int main(int count, char **words)
     TAKES(nms_opening_of);
     TAKES(nms_plan_order);
     TAKES(nms_confirm);
+    if (nms_view_of(&board, 0, &view) != NMS_OK)
+        return 2;
+    TAKES(nms_plan_view);
+    TAKES(nms_confirm_view);
+    TAKES(nms_through_view);
+    TAKES(nms_terms_find_part);
+    TAKES(nms_terms_find_sym);
+    TAKES(nms_terms_part_name);
+    TAKES(nms_terms_sym_name);
     TAKES(nms_plan_text);
     memcpy(text, out, bytes = out_bytes);
     TAKES(nms_read_plan);
@@ -235,8 +258,12 @@ int main(int count, char **words)
     TAKES(nms_read_plan);
     every_setup("nms_setup_place", nms_setup_place_, setup, empty);
     every_setup("nms_open", nms_open_, setup, empty);
+    every_setup("nms_terms_open", nms_terms_open_, setup, empty);
     if (nms_open(setup, strlen(setup), &other) != NMS_OK)
         return 2;
     TAKES(nms_close);
+    if (nms_terms_open(setup, strlen(setup), &more_terms) != NMS_OK)
+        return 2;
+    TAKES(nms_terms_close);
     return 0;
 }

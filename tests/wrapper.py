@@ -1,12 +1,13 @@
 #!/usr/bin/env python3
 """Tests the package in python/nms: each wrong argument is refused and named, and threads may share a board.
 
-    NMS_LIBRARY=libnms.so PYTHONPATH=python tests/wrapper.py SETUP        the built-in setup
+    NMS_LIBRARY=libnms.so PYTHONPATH=python tests/wrapper.py SETUP [HEADER]        the built-in setup
 
-It tests nms.arrays too if there is numpy.
+It tests nms.arrays too if there is numpy, and with HEADER also that each function of that nms.h was called.
 
 Prints a line for each difference, and last `N passed, M failed`.
 """
+import re
 import sys
 import threading
 
@@ -94,10 +95,103 @@ def right(board):
     """What is right is taken, in each form."""
     plans = [board.plan(it) for it in (order(), order(side=0), order(manual=0), order(self_help=[]), order(self_help={"Z"}))]
     check("an order in five forms", len({board.text(it).replace(",Z\n", ",\n") for it in plans[:4]}) == 1, [it.legs for it in plans])
+    read = board.read(board.text(plans[0]))
+    check("a plan read from its text", (read.legs, read.cost, board.confirm(read)) == (plans[0].legs, plans[0].cost, None), read.legs)
+    check("the place of a setup's fault", nms.setup_place(b"").spot == "tape_limit")
     check("self-help by a set", [it.part for it in plans[4].legs] == ["P"], plans[4].legs)
     check("a name twice", [it.part for it in board.plan(order(self_help=("P", "P"))).legs] == ["N"])
     check("a manual order", board.plan(order(side=SELL, limit=100_000, manual=True)).filled == 100)
     check("the most shares at the highest limit", board.plan(order(shares=999_999_999, limit=99_999_999_999)).filled == 800)
+
+
+def every_look(board):
+    """Each look gives what `best` and the records say, and refuses each wrong argument."""
+    bid, offer = nms.Side.BID, nms.Side.OFFER
+    best = board.best("ABC")
+    rows = board.rows("ABC", offer)
+    check("the rows of a side", [it.price for it in rows] == [100_000, 100_000] and rows[0] == best.offer, rows)
+    check("the rows by place", [board.ranked("ABC", offer, it) for it in range(3)] == [*rows, None])
+    check("a side with no row", board.rows("PNY", bid) == [] and board.ranked("PNY", bid, 0) is None)
+    through = board.through("ABC", 100_100 * 100)
+    check("what a price trades through", (len(through.bids), len(through.offers)) == (0, 2), through)
+    check("nothing is traded through", board.through("ABC", 100_000 * 100)[1:] == ([], []))
+    costs = [board.unit_cost("N", it, 100_000) for it in (BUY, SELL)]
+    check("what a share costs with its fee", costs[0] == -costs[1] + 2 * (costs[0] - 10**10) and costs[0] > 10**10 > -costs[1], costs)
+    check("names and numbers of symbols", [board.sym(board.sym_name(it)) for it in (0, 1)] == [0, 1])
+    check("the version", nms.version().count(".") == 2, nms.version())
+    for value in (2, -1, 256, None, "B"):
+        refused(f"the side {value!r}", 10, "side", lambda: board.rows("ABC", value))
+        refused(f"the side {value!r}", 10, "side", lambda: board.ranked("ABC", value, 0))
+        refused(f"the side {value!r}", 10, "side", lambda: board.unit_cost("N", value, 1))
+    for value in (-1, 256, None, 0.0):
+        refused(f"the place {value!r}", 10, "place", lambda: board.ranked("ABC", bid, value))
+    for value in (0, -1, 10**13, 2**64 + 1, None, 1.5, True):
+        refused(f"the price {value!r}", 10, "millionths", lambda: board.through("ABC", value))
+    for value in (0, -1, 10**11, 2**64 + 1, None, 1.5, True):
+        refused(f"the price {value!r}", 10, "price", lambda: board.unit_cost("N", BUY, value))
+    for value in (-1, 2**16, "ABC", None):
+        refused(f"the name of symbol {value!r}", 10, "sym", lambda: board.sym_name(value))
+    refused("the name of symbol 60000", 12, "sym", lambda: board.sym_name(60_000))
+    for call in (board.opening, lambda it: board.rows(it, bid), lambda it: board.ranked(it, bid, 0), lambda it: board.through(it, 1)):
+        refused("a strange symbol", 12, "sym", lambda: call("XYZ"))
+    refused("a strange participant", 11, "part", lambda: board.unit_cost("NYSE", BUY, 1))
+
+
+def changes(setup, board):
+    """Changes by numbers do what their records do, an opening brings a new board to the same rows, and wrong fields are named."""
+    quote = nms.Change(nms.Kind.QUOTE, "N", "ABC", nms.State.AUTOMATED, (99_900, 200), (100_000, 300))
+    with nms.Board(setup) as other, nms.Board(setup) as single:
+        for change, record in ((quote, "Q,N,ABC,A,9.99,200,10.00,300"), (quote._replace(part="P", offer=None), "Q,P,ABC,A,9.99,200,,"),
+                               (nms.Change(nms.Kind.STATE, "P", "ABC", nms.State.MANUAL), "S,P,ABC,M"),
+                               (nms.Change(nms.Kind.LOT, sym="ABC", lot=50), "R,ABC,50"), (nms.Change(nms.Kind.WITHDRAW, "N"), "X,N"),
+                               (quote._replace(state=nms.State.HALTED), "Q,N,ABC,H,9.99,200,10.00,300")):
+            other.apply(change)
+            single.apply_text(record)
+            check(f"{record} by numbers", bytes(other.view("ABC")) == bytes(single.view("ABC")), other.rows("ABC", nms.Side.BID))
+        check("changes at once", other.apply_all([quote, quote._replace(part="P")]) == 2 and other.applied() == 8, other.applied())
+        check("no changes", other.apply_all([]) == 0)
+        refused("a wrong one of some", 12, "sym", lambda: other.apply_all([quote, quote._replace(sym="XYZ")]))
+        check("none of them was applied", other.applied() == 8, other.applied())
+        with nms.Board(setup) as later:
+            check("an opening", later.apply_all(other.opening("ABC")) > 0)
+            check("it shows the same rows", all([it._replace(receipt=0) for it in later.rows("ABC", side)] == [it._replace(receipt=0) for it in other.rows("ABC", side)]
+                                                for side in nms.Side))
+    wrong = {
+        "kind": [4, -1, 256, None, "Q"],
+        "state": [3, -1, 256, None, "A"],
+        "bid": [(0, 100), (1, 0), (10**11, 1), (1, 10**9), (1,), 1, "19", (1, None), (True, 1), [1, 1]],
+        "offer": [(0, 100), (1, 0), (2**64 + 1, 1), (1, 2**32 + 1)],
+        "part": [None, 0, b"N"],
+        "sym": [None, 0, b"ABC"],
+    }
+    for field, values in wrong.items():
+        for value in values:
+            refused(f"a change whose {field} is {value!r}", 10, field, lambda: board.apply(quote._replace(**{field: value})))
+    for value in (0, 1_001, -1, 2**16 + 1, None, True):
+        refused(f"the round lot {value!r}", 10, "lot", lambda: board.apply(nms.Change(nms.Kind.LOT, sym="ABC", lot=value)))
+    refused("a change of a stranger", 11, "part", lambda: board.apply(quote._replace(part="NYSE")))
+    refused("a change of a strange symbol", 12, "sym", lambda: board.apply(quote._replace(sym="XYZ")))
+    for value in (None, "Q,N,ABC,A,,,,", (0, "N")):
+        refused("a change that is none", 10, "change", lambda: board.apply(value))
+    check("no refused change was applied", board.applied() == 3, board.applied())
+
+
+class Counting:
+    """The library, and which of its functions were called."""
+
+    def __init__(self, library):
+        self.library, self.called = library, set()
+
+    def __getattr__(self, name):
+        self.called.add(name)
+        return getattr(self.library, name)
+
+
+def called(library, header):
+    """Each function of the header was called."""
+    with open(header, encoding="utf-8") as file:
+        declared = set(re.findall(r"^uint32_t (nms_\w+)\(", file.read(), re.M)) - {"nms_abi"}
+    check("each function of nms.h is called from Python", library.called >= declared, sorted(declared - library.called))
 
 
 def names(setup):
@@ -108,6 +202,28 @@ def names(setup):
     refused("a name of a closed board", 15, "", lambda: board.part_name(0))
     refused("a participant of a closed board", 15, "", lambda: board.part("P"))
     refused("a symbol of a closed board", 15, "", lambda: board.sym("PNY"))
+
+
+def views(setup, board):
+    """A view is planned on by terms, also after the board has changed, and a torn one is refused."""
+    with nms.Terms(setup) as terms:
+        view, plan = board.view("ABC"), board.plan(order())
+        same = terms.plan(nms.View.of(bytes(view)), order())
+        check("a plan on a view", (same.legs, same.cost, same.version) == (plan.legs, plan.cost, view.version), same.legs)
+        check("it is confirmed there", terms.confirm(view, same) is None and board.confirm(same) is None)
+        check("names by terms", (terms.part("P"), terms.sym("PNY"), terms.part_name(1), terms.sym_name(1)) == (1, 1, "P", "PNY"))
+        check("what a price trades through on a view", terms.through(view, 10_010_000) == board.through("ABC", 10_010_000))
+        refused("a price of none", 10, "millionths", lambda: terms.through(view, 0))
+        refused("what is no view", 10, "view", lambda: terms.through(bytes(view), 1))
+        torn = bytearray(bytes(view))
+        torn[0] ^= 255
+        torn[16] ^= 1
+        refused("a torn view", 21, "", lambda: terms.plan(nms.View.of(bytes(torn)), order()))
+        refused("half a view", 10, "data", lambda: nms.View.of(bytes(view)[:-1]))
+        refused("no view", 10, "view", lambda: terms.plan(None, order()))
+        refused("an order of another symbol", 12, "", lambda: terms.plan(view, order(sym="PNY")))
+        refused("a plan that is none", 10, "plan", lambda: terms.confirm(view, None))
+    refused("closed terms", 15, "", lambda: terms.plan(view, order()))
 
 
 def threads(board):
@@ -175,13 +291,14 @@ def refused_at(what, code, place, call):
     """The call raises an error of that code at that place."""
     try:
         check(what, False, call())
-    except nms.arrays.RefusedAt as error:
+    except nms.RefusedAt as error:
         check(what, (error.code, error.place) == (code, place), (error.code, error.place))
 
 
-def main(path):
+def main(path, *headers):
     with open(path, "rb") as file:
         setup = file.read()
+    library = nms._LIBRARY = Counting(nms._LIBRARY)
     processors()
     if numpy:
         arrays(setup)
@@ -191,12 +308,17 @@ def main(path):
         arguments(board)
         right(board)
         names(setup)
+        every_look(board)
+        changes(setup, board)
+        views(setup, board)
         threads(board)
+    for header in headers:
+        called(library, header)
     print(f"{Count.passed} passed, {Count.failed} failed")
     return 1 if Count.failed else 0
 
 
 if __name__ == "__main__":
-    if len(sys.argv) != 2:
+    if len(sys.argv) not in (2, 3):
         sys.exit(__doc__)
-    sys.exit(main(sys.argv[1]))
+    sys.exit(main(*sys.argv[1:]))

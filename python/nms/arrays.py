@@ -13,7 +13,7 @@ from typing import Optional
 import numpy
 from numpy.typing import NDArray
 
-from . import _LIBRARY, _MOST_PARTS, Board, NmsError, _Best, _Counts, _must, _Order, _Plan
+from . import _LIBRARY, _MOST_PARTS, Board, RefusedAt, _Best, _Change, _Counts, _must, _Order, _Plan
 
 __all__ = ["BEST", "CHANGE", "CUT", "LEG", "ORDER", "PLAN", "ROW", "RefusedAt", "apply_all", "best_all", "plan_all"]
 
@@ -27,7 +27,7 @@ LEG = numpy.dtype([("price", "<u8"), ("shares", "<u4"), ("part", "u1"), ("spare_
 CUT = numpy.dtype([("price", "<u8"), ("marginal", "<i8"), ("kind", "<u4"), ("spare", "<u4")])
 PLAN = numpy.dtype([("version", "<u8"), ("cost_low", "<u8"), ("cost_high", "<i8"), ("filled", "<u4"), ("legs", "<u4"), ("cuts", "<u4"),
                     ("spare", "<u4"), ("leg", LEG, _MOST_PARTS), ("cut", CUT, _MOST_PARTS)])
-if [it.itemsize for it in (CHANGE, BEST, ORDER, PLAN)] != [32, *map(ctypes.sizeof, (_Best, _Order, _Plan))]:
+if [it.itemsize for it in (CHANGE, BEST, ORDER, PLAN)] != [*map(ctypes.sizeof, (_Change, _Best, _Order, _Plan))]:
     raise ImportError("the layouts of nms.arrays are not those of nms.h")
 
 # The same functions with addresses as arguments, so that no object of ctypes is made for each element. As in the package, the
@@ -39,14 +39,6 @@ for _name, _arguments in {
     "nms_raw_plan_order": [c_void_p, c_void_p, c_void_p],
 }.items():
     getattr(_FAST, _name).argtypes, getattr(_FAST, _name).restype = _arguments, c_uint32
-
-
-class RefusedAt(NmsError):
-    """An element of an array was refused. `place` is its place, from 0 on. Of changes, those before it were applied."""
-
-    def __init__(self, code: int, place: int) -> None:
-        super().__init__(code)
-        self.place = place
 
 
 def _rows(field: str, array: "NDArray[numpy.void]", kind: "numpy.dtype[numpy.void]") -> "NDArray[numpy.void]":

@@ -4,10 +4,18 @@
 
 mod changing;
 mod handle;
+mod lease;
+mod leasing;
+mod look;
 mod looking;
 mod loose;
 mod naming;
 mod opening;
 mod planning;
 mod taking;
+mod terms;
+mod terms_leasing;
+mod terms_look;
+mod terms_naming;
 mod texting;
+mod viewing;

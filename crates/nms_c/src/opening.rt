@@ -17,9 +17,9 @@ use std::alloc::Global;
 /// The version of the header's layout.
 #[unsafe(no_mangle)]
 pub extern "C" fn nms_abi() -> u32
-    ensures { result ≡ 1 }
+    ensures { result ≡ 2 }
 {
-    1
+    2
 }
 
 /// Opens a board from the text of a setup.

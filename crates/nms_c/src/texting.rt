@@ -65,7 +65,7 @@ pub extern "C" fn nms_raw_plan_text(
     ensures closed { board.old.mark ≢ open_mark → (result ≡ 15) × (board.new ≡ board.old) }
     ensures open { board.old.mark ≡ open_mark → board.new.mark ≡ open_mark }
     ensures answer { board.old.mark ≡ open_mark → result ≢ 9 → Behind board.old.value (λ opened. result ≡ answer_of (plan_text_fault opened order.now plan.now out.old)) }
-    ensures written { result ≡ 0 → Behind board.old.value (λ opened. IfOk (made_said opened order.now plan.now)
+    ensures written { result ≡ 0 → Behind board.old.value (λ opened. IfOk (made_said opened.settings order.now plan.now)
         (λ made. IsWritten (plan_text opened.settings.roster made.1.plan made.1.cuts) out.old out.new bytes.new)) }
     ensures same { board.new.value ≡ board.old.value }
     ensures unwritten { result ≢ 0 → (out.new ≡ out.old) × (bytes.new ≡ bytes.old) }

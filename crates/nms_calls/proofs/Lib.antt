@@ -3,3 +3,4 @@ pub mod OpenedLemmas
 pub mod PlaceLemmas
 pub mod SetupPlaceLemmas
 pub mod SideLemmas
+pub mod ViewLemmas

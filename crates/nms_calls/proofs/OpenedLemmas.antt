@@ -72,5 +72,5 @@ stopped-at opened now changes i taken d found within reached refused =
 
 -- the plan that numbers say for the order that numbers say
 pub made-when : (opened : Opened) (n : NmsOrder) (m : NmsPlan) (order : Terms) (made : Planned) → order_said (sizes_on opened) n ≡ Ok order
-    → plan_said (length opened.settings.roster.parts) order m ≡ Ok made → made_said opened n m ≡ Ok (order, made)
-made-when opened n m order made said is = ap (made_for opened m) said ∙ ap (with_order order) is
+    → plan_said (length opened.settings.roster.parts) order m ≡ Ok made → made_said opened.settings n m ≡ Ok (order, made)
+made-when opened n m order made said is = ap (made_for opened.settings m) said ∙ ap (with_order order) is

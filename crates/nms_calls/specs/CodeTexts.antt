@@ -46,6 +46,7 @@ text_of fault.Doubted = codes "the plan is not confirmed"
 text_of fault.OpenAlready = codes "the board is open already"
 text_of fault.Null = codes "a null pointer"
 text_of fault.NoRoom = codes "the buffer is too small"
+text_of fault.NoView = codes "no look shows such a view"
 text_of fault.PlanText = codes "L11: not the text of a plan"
 
 -- the setup's fault of a code
@@ -89,7 +90,8 @@ own_with n =
     if n == 17 then Some fault.OpenAlready else (
     if n == 18 then Some fault.Null else (
     if n == 19 then Some fault.NoRoom else (
-    if n == 111 then Some fault.PlanText else None))))))))))
+    if n == 21 then Some fault.NoView else (
+    if n == 111 then Some fault.PlanText else None)))))))))))
 
 abbrev pub or_line : ℕ → Option LineFault → Option CallFault
 or_line n None = own_with n

@@ -46,6 +46,7 @@ code_of fault.Doubted = 16
 code_of fault.OpenAlready = 17
 code_of fault.Null = 18
 code_of fault.NoRoom = 19
+code_of fault.NoView = 21
 code_of (fault.Line found) = line_code found
 code_of fault.PlanText = 111
 

@@ -11,5 +11,8 @@ pub mod PlanNumbers
 pub mod PlanSaid
 pub mod RecordSaid
 pub mod RowNumbers
+pub mod RowsSaid
 pub mod SetupPlaces
+pub mod ViewCalls
+pub mod ViewSaid
 pub mod Written

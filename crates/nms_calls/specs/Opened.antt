@@ -126,12 +126,12 @@ with_order order (Err found) = Err found
 with_order order (Ok made) = Ok (order, made)
 
 -- the plan that numbers say for the order that numbers say: the order is checked first
-abbrev pub made_for : Opened → NmsPlan → Result Terms CallFault → Result (Terms × Planned) CallFault
-made_for opened plan (Err found) = Err found
-made_for opened plan (Ok order) = with_order order (plan_said (length opened.settings.roster.parts) order plan)
+abbrev pub made_for : Settings → NmsPlan → Result Terms CallFault → Result (Terms × Planned) CallFault
+made_for settings plan (Err found) = Err found
+made_for settings plan (Ok order) = with_order order (plan_said (length settings.roster.parts) order plan)
 
-abbrev pub made_said : Opened → NmsOrder → NmsPlan → Result (Terms × Planned) CallFault
-made_said opened order plan = made_for opened plan (order_said (sizes_on opened) order)
+abbrev pub made_said : Settings → NmsOrder → NmsPlan → Result (Terms × Planned) CallFault
+made_said settings order plan = made_for settings plan (order_said (sizes_of settings.roster) order)
 
 -- the finding about it
 abbrev pub found_of : Opened → Result (Terms × Planned) CallFault → Result (Option Doubt) CallFault
@@ -139,7 +139,7 @@ found_of opened (Err found) = Err found
 found_of opened (Ok made) = Ok (doubt_on opened made.0 made.1)
 
 abbrev pub finding : Opened → NmsOrder → NmsPlan → Result (Option Doubt) CallFault
-finding opened order plan = found_of opened (made_said opened order plan)
+finding opened order plan = found_of opened (made_said opened.settings order plan)
 
 -- why a plan is not confirmed
 abbrev pub doubted : Result (Option Doubt) CallFault → Option CallFault

@@ -8,6 +8,7 @@ use Rattle.nms_quote.specs.declared.plan.Leg.{Leg}
 use Rattle.nms_quote.specs.declared.plan.Plan.{Plan}
 use Rattle.nms_board.specs.Cells.{Board}
 use Rattle.nms_board.specs.Shown.{seen_on}
+use Rattle.nms_board.specs.View.{Seen}
 use Rattle.nms_fee_book.specs.Fees.{Charges}
 use Rattle.nms_rules.specs.Accepted.{IsAccepted}
 use Rattle.nms_rules.specs.Assignment.{IsOptimal}
@@ -70,10 +71,14 @@ pub record AreNumbersOf (plan : Plan) (certificate : List Cut) (out : NmsPlan) :
   pub leg : AreLegs out.leg plan.legs.items
   pub cut : AreCuts out.cut certificate
 
--- the numbers of the best lawful plan for an order on a board, with the certificate that shows it
-pub record IsBestPlan (board : Board) (fees : Charges) (order : Terms) (out : NmsPlan) : Type 0 where
+-- the numbers of the best lawful plan for an order on what a look shows, with the certificate that shows it
+pub record IsBestOn (seen : Seen) (fees : Charges) (order : Terms) (out : NmsPlan) : Type 0 where
   pub plan : Plan
   pub certificate : List Cut
   pub numbers : AreNumbersOf plan certificate out
-  pub accepted : IsAccepted (seen_on board order.sym) order fees plan certificate
-  pub optimal : IsOptimal (usable (seen_on board order.sym) order fees) order.shares (given_by plan.legs.items)
+  pub accepted : IsAccepted seen order fees plan certificate
+  pub optimal : IsOptimal (usable seen order fees) order.shares (given_by plan.legs.items)
+
+-- those of the best one on a board
+abbrev pub IsBestPlan : Board → Charges → Terms → NmsPlan → Type 0
+IsBestPlan board fees order out = IsBestOn (seen_on board order.sym) fees order out

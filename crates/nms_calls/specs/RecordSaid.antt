@@ -70,7 +70,7 @@ made_text_fault opened out (Ok made) = text_fault (plan_text opened.settings.ros
 
 -- why the text of a plan that numbers say is not written
 abbrev pub plan_text_fault : Opened → NmsOrder → NmsPlan → List ℕ → Option CallFault
-plan_text_fault opened order plan out = made_text_fault opened out (made_said opened order plan)
+plan_text_fault opened order plan out = made_text_fault opened out (made_said opened.settings order plan)
 
 abbrev pub side_number : OrderSide → ℕ
 side_number side.Buy = 0

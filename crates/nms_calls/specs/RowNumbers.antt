@@ -5,7 +5,8 @@ use Rattle.nms_quote.specs.declared.side_quote.Side.{Side}
 use Rattle.nms_quote.specs.declared.side_quote.Side.TheVariants.{Bid, Offer}
 use Rattle.nms_board.specs.Cells.{Board}
 use Rattle.nms_board.specs.Ranking.{ranked_at, total_size}
-use Rattle.nms_board.specs.Shown.{rows_held}
+use Rattle.nms_board.specs.Shown.{rows_held, seen_on}
+use Rattle.nms_board.specs.View.{Seen}
 use Rattle.nms_board.specs.declared.row.Row.{Row}
 use Rattle.nms_nbbo.specs.Best.{IsBestOf}
 use Rattle.nms_nbbo.specs.Market.{market_of}
@@ -86,13 +87,17 @@ pub record AreRanked (side : Side) (rows : List Row) (out : NmsRows) : Type 0 wh
   pub count_of : out.count ≡ length rows
   pub places : (place : ℕ) → place < 32 → IsRowAt out place (row_numbers (ranked_at side rows place))
 
--- both sides of a symbol, with the version and the state of the market
+-- the state of the market between the best rows of two sides
+abbrev pub market_between : List Row → List Row → ℕ
+market_between bids offers = market_number (market_of (ranked_at Bid bids 0) (ranked_at Offer offers 0))
+
+-- both sides of a symbol, with the version, the symbol and the state of the market
 pub record IsView (board : Board) (sym : ℕ) (out : NmsView) : Type 0 where
   pub version : out.version ≡ board.applied
+  pub of_sym : out.sym ≡ sym
   pub bids : AreRanked Bid (rows_held board sym Bid) out.bid
   pub offers : AreRanked Offer (rows_held board sym Offer) out.offer
-  pub market : out.market ≡ market_number (market_of (ranked_at Bid (rows_held board sym Bid) 0) (ranked_at Offer (rows_held board sym
-      Offer) 0))
+  pub market : out.market ≡ market_between (rows_held board sym Bid) (rows_held board sym Offer)
 
 -- a price in 1/1,000,000 dollar is traded through by a protected bid above it, and by a protected offer below it
 abbrev pub is_beyond : Side → ℕ → ℕ → Bool
@@ -109,10 +114,14 @@ through_at side millionths rows = filter (is_through_at side millionths) rows
 abbrev pub AreRowsAt : List NmsRow → List Row → Type 0
 AreRowsAt places rows = (place : ℕ) → place < 32 → slice_get places place ≡ Some (row_numbers (slice_get rows place))
 
--- the quotations of a board that a price trades through
-pub record AreThrough (board : Board) (sym millionths : ℕ) (out : NmsThrough) : Type 0 where
-  pub version : out.version ≡ board.applied
-  pub bids : out.bids ≡ length (through_at Bid millionths (rows_held board sym Bid))
-  pub offers : out.offers ≡ length (through_at Offer millionths (rows_held board sym Offer))
-  pub bid : AreRowsAt out.bid (through_at Bid millionths (rows_held board sym Bid))
-  pub offer : AreRowsAt out.offer (through_at Offer millionths (rows_held board sym Offer))
+-- the quotations of a look that a price trades through
+pub record AreThroughOn (seen : Seen) (millionths : ℕ) (out : NmsThrough) : Type 0 where
+  pub version : out.version ≡ seen.version
+  pub bids : out.bids ≡ length (through_at Bid millionths seen.bids)
+  pub offers : out.offers ≡ length (through_at Offer millionths seen.offers)
+  pub bid : AreRowsAt out.bid (through_at Bid millionths seen.bids)
+  pub offer : AreRowsAt out.offer (through_at Offer millionths seen.offers)
+
+-- those of a board
+abbrev pub AreThrough : Board → ℕ → ℕ → NmsThrough → Type 0
+AreThrough board sym millionths out = AreThroughOn (seen_on board sym) millionths out

@@ -31,6 +31,8 @@ pub enum CallFault {
     Null,
     /// 19: the caller's buffer is too small.
     NoRoom,
+    /// 21: the numbers are no view: no look shows them.
+    NoView,
     /// 101 to 110, and 114: the record is refused.
     Line(LineFault),
     /// 111: the text is no plan.
@@ -55,6 +57,7 @@ impl CallFault {
             CallFault::OpenAlready => 17,
             CallFault::Null => 18,
             CallFault::NoRoom => 19,
+            CallFault::NoView => 21,
             CallFault::Line(fault) => line_code(fault),
             CallFault::PlanText => 111,
         }

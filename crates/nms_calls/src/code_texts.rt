@@ -109,6 +109,7 @@ fn own_with(code: u32) -> Option<CallFault>
         17 => Some(CallFault::OpenAlready),
         18 => Some(CallFault::Null),
         19 => Some(CallFault::NoRoom),
+        21 => Some(CallFault::NoView),
         111 => Some(CallFault::PlanText),
         _ => None,
     }
@@ -131,6 +132,7 @@ fn text_of(fault: CallFault) -> &'static str
         CallFault::OpenAlready => "the board is open already",
         CallFault::Null => "a null pointer",
         CallFault::NoRoom => "the buffer is too small",
+        CallFault::NoView => "no look shows such a view",
         CallFault::PlanText => "L11: not the text of a plan",
     }
 }

@@ -31,6 +31,8 @@ mod side_calls;
 mod side_writing;
 mod text_calls;
 mod text_writing;
+mod view_calls;
+mod view_reading;
 
 pub use call_fault::{CallFault, answer};
 pub use change_numbers::NmsChange;
@@ -40,6 +42,7 @@ pub use open_board::OpenBoard;
 pub use opening_numbers::NmsOpening;
 pub use order_numbers::NmsOrder;
 pub use plan_numbers::{NmsCut, NmsLeg, NmsPlan};
-pub use roster_calls::NmsCounts;
+pub use roster_calls::{NmsCounts, find_part, find_sym, part_name, sym_name};
 pub use row_numbers::{NmsBest, NmsRow, NmsRows, NmsThrough, NmsView};
 pub use setup_place::{NmsPlace, put_setup_place};
+pub use view_calls::{confirm_view, plan_view, through_view};

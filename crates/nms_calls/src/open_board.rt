@@ -35,7 +35,6 @@ use std::marker::Model;
 pub struct OpenBoard {
     pub(crate) setup: Setup,
     pub(crate) board: Boards,
-    planner: Planner,
     /// The fields of the record being read. Each field takes at least one byte of the text, a comma or the end.
     pub(crate) row: ByteRecord,
     /// The text of the plan being written.
@@ -75,7 +74,6 @@ impl OpenBoard {
         Ok(OpenBoard {
             setup,
             board,
-            planner: Planner::new(),
             row,
             text,
         })
@@ -132,19 +130,19 @@ impl OpenBoard {
         Ok(())
     }
 
-    /// Plans the order that numbers give, and writes the plan with its certificate.
-    pub fn plan(&mut self, numbers: &NmsOrder, out: &mut NmsPlan) -> Result<(), CallFault>
-        ensures answer { result_err result ≡ order_fault self.old numbers.now }
-        ensures best { OnOk result (IfOk (order_said (sizes_on self.old) numbers.now) (λ order. IsBestPlan self.old.board self.old.settings.fees order out.new)) }
-        ensures same { self.new ≡ self.old }
+    /// Plans the order that numbers give, and writes the plan with its certificate. It works in room on its own stack.
+    pub fn plan(&self, numbers: &NmsOrder, out: &mut NmsPlan) -> Result<(), CallFault>
+        ensures answer { result_err result ≡ order_fault self.now numbers.now }
+        ensures best { OnOk result (IfOk (order_said (sizes_on self.now) numbers.now) (λ order. IsBestPlan self.now.board self.now.settings.fees order out.new)) }
         ensures unwritten { OnErr result (out.new ≡ out.old) }
     {
         let order = order_of(self.setup.roster(), numbers)?;
         let fees = self.setup.fees();
-        self.planner.plan_on(&self.board, &order, fees);
-        let plan = self.planner.plan();
+        let mut planner = Planner::new();
+        planner.plan_on(&self.board, &order, fees);
+        let plan = planner.plan();
         an_accepted_plan_is_within_bounds(&order, fees, plan);
-        put_plan(plan, self.planner.certificate(), out);
+        put_plan(plan, planner.certificate(), out);
         Ok(())
     }
 

@@ -1,4 +1,4 @@
-//! What a board holds, and names for numbers: `specs/Named`.
+//! What a board holds, and the names of a setup for numbers: `specs/Named`.
 ghost use Rattle.std.specs.Prelude.{◌≡◌, ◌-◌, Some, OnErr, OnOk};
 ghost use Rattle.std.specs.Result.{result_err};
 ghost use Rattle.nms_quote.specs.Roster.{part_text, place_in, symbol_text};
@@ -9,6 +9,7 @@ use crate::call_fault::CallFault;
 use crate::change_reading::{part_of, sym_of};
 use crate::open_board::OpenBoard;
 use crate::text_writing::put_text;
+use nms_fees::Setup;
 
 /// What a board holds.
 #[repr(C)]
@@ -37,55 +38,72 @@ impl OpenBoard {
         }
     }
 
-    /// Writes the place of the participant of a name.
-    pub fn find_part(&self, name: &[u8], out: &mut u8) -> Result<(), CallFault>
-        ensures answer { result_err result ≡ absent CallFault.NoParticipant (place_in self.now.settings.roster.parts name.now) }
-        ensures found { OnOk result (place_in self.now.settings.roster.parts name.now ≡ Some out.new) }
-        ensures unwritten { OnErr result (out.new ≡ out.old) }
+    /// The setup.
+    pub fn setup(&self) -> &Setup
+        ensures { result.now ≡ self.now.settings }
     {
-        match self.setup.roster().find_part(name) {
-            Some(part) => {
-                *out = part.get();
-                Ok(())
-            }
-            None => Err(CallFault::NoParticipant),
+        &self.setup
+    }
+}
+
+/// Writes the place of the participant of a name.
+pub fn find_part(setup: &Setup, name: &[u8], out: &mut u8) -> Result<(), CallFault>
+    ensures answer { result_err result ≡ absent CallFault.NoParticipant (place_in setup.now.roster.parts name.now) }
+    ensures found { OnOk result (place_in setup.now.roster.parts name.now ≡ Some out.new) }
+    ensures unwritten { OnErr result (out.new ≡ out.old) }
+{
+    match setup.roster().find_part(name) {
+        Some(part) => {
+            *out = part.get();
+            Ok(())
         }
+        None => Err(CallFault::NoParticipant),
     }
+}
 
-    /// Writes the place of the symbol of a name.
-    pub fn find_sym(&self, name: &[u8], out: &mut u16) -> Result<(), CallFault>
-        ensures answer { result_err result ≡ absent CallFault.NoSymbol (place_in self.now.settings.roster.syms name.now) }
-        ensures found { OnOk result (place_in self.now.settings.roster.syms name.now ≡ Some out.new) }
-        ensures unwritten { OnErr result (out.new ≡ out.old) }
-    {
-        match self.setup.roster().find_sym(name) {
-            Some(sym) => {
-                *out = sym.get();
-                Ok(())
-            }
-            None => Err(CallFault::NoSymbol),
+/// Writes the place of the symbol of a name.
+pub fn find_sym(setup: &Setup, name: &[u8], out: &mut u16) -> Result<(), CallFault>
+    ensures answer { result_err result ≡ absent CallFault.NoSymbol (place_in setup.now.roster.syms name.now) }
+    ensures found { OnOk result (place_in setup.now.roster.syms name.now ≡ Some out.new) }
+    ensures unwritten { OnErr result (out.new ≡ out.old) }
+{
+    match setup.roster().find_sym(name) {
+        Some(sym) => {
+            *out = sym.get();
+            Ok(())
         }
+        None => Err(CallFault::NoSymbol),
     }
+}
 
-    /// Writes the name of a participant.
-    pub fn part_name(&self, place: u8, out: &mut [u8], bytes: &mut usize) -> Result<(), CallFault>
-        ensures answer { result_err result ≡ part_name_fault self.now place out.old }
-        ensures written { OnOk result (IsWritten (part_text self.now.settings.roster place) out.old out.new bytes.new) }
-        ensures unwritten { OnErr result ((out.new ≡ out.old) × (bytes.new ≡ bytes.old)) }
-    {
-        let part = part_of(self.setup.roster(), place)?;
-        put_text(self.setup.roster().part_name(part).as_bytes(), out, bytes)
-    }
+/// Writes the name of a participant.
+pub fn part_name(
+    setup: &Setup,
+    place: u8,
+    out: &mut [u8],
+    bytes: &mut usize,
+) -> Result<(), CallFault>
+    ensures answer { result_err result ≡ part_name_fault setup.now place out.old }
+    ensures written { OnOk result (IsWritten (part_text setup.now.roster place) out.old out.new bytes.new) }
+    ensures unwritten { OnErr result ((out.new ≡ out.old) × (bytes.new ≡ bytes.old)) }
+{
+    let part = part_of(setup.roster(), place)?;
+    put_text(setup.roster().part_name(part).as_bytes(), out, bytes)
+}
 
-    /// Writes the name of a symbol.
-    pub fn sym_name(&self, place: u16, out: &mut [u8], bytes: &mut usize) -> Result<(), CallFault>
-        ensures answer { result_err result ≡ sym_name_fault self.now place out.old }
-        ensures written { OnOk result (IsWritten (symbol_text self.now.settings.roster place) out.old out.new bytes.new) }
-        ensures unwritten { OnErr result ((out.new ≡ out.old) × (bytes.new ≡ bytes.old)) }
-    {
-        let sym = sym_of(self.setup.roster(), place)?;
-        put_text(self.setup.roster().sym_name(sym).as_bytes(), out, bytes)
-    }
+/// Writes the name of a symbol.
+pub fn sym_name(
+    setup: &Setup,
+    place: u16,
+    out: &mut [u8],
+    bytes: &mut usize,
+) -> Result<(), CallFault>
+    ensures answer { result_err result ≡ sym_name_fault setup.now place out.old }
+    ensures written { OnOk result (IsWritten (symbol_text setup.now.roster place) out.old out.new bytes.new) }
+    ensures unwritten { OnErr result ((out.new ≡ out.old) × (bytes.new ≡ bytes.old)) }
+{
+    let sym = sym_of(setup.roster(), place)?;
+    put_text(setup.roster().sym_name(sym).as_bytes(), out, bytes)
 }
 
 /// How many more there may be.

@@ -69,8 +69,10 @@ pub struct NmsView {
     pub version: u64,
     /// The state of the market, as in `NmsBest`.
     pub market: u32,
+    /// The symbol's place.
+    pub sym: u16,
     /// 0.
-    pub spare: u32,
+    pub spare: u16,
     /// The bids.
     pub bid: NmsRows,
     /// The offers.

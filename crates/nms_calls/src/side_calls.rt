@@ -45,6 +45,7 @@ impl OpenBoard {
         let offer = self.board.ranked(Side::Offer, sym, 0);
         out.version = self.board.applied();
         out.market = market_number(market_between(bid, offer));
+        out.sym = sym.get();
         out.spare = 0;
         put_side(&self.board, Side::Bid, sym, &mut out.bid);
         put_side(&self.board, Side::Offer, sym, &mut out.offer);

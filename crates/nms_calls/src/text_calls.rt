@@ -70,7 +70,7 @@ impl OpenBoard {
         bytes: &mut usize,
     ) -> Result<(), CallFault>
         ensures answer { result ≢ Err (CallFault.Setup SetupFault.NoMemory) → result_err result ≡ plan_text_fault self.old order.now plan.now out.old }
-        ensures written { OnOk result (IfOk (made_said self.old order.now plan.now)
+        ensures written { OnOk result (IfOk (made_said self.old.settings order.now plan.now)
             (λ made. IsWritten (plan_text self.old.settings.roster made.1.plan made.1.cuts) out.old out.new bytes.new)) }
         ensures same { self.new ≡ self.old }
         ensures unwritten { OnErr result ((out.new ≡ out.old) × (bytes.new ≡ bytes.old)) }

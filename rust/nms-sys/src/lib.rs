@@ -9,7 +9,7 @@ use core::ffi::c_void;
 use core::mem::{offset_of, size_of};
 
 pub const NMS_VERSION: &str = "0.2.0";
-pub const NMS_ABI: u32 = 1;
+pub const NMS_ABI: u32 = 2;
 pub const NMS_MOST_PARTS: usize = 32;
 pub const NMS_MOST_SYMS: usize = 1000;
 pub const NMS_MOST_OPENING: usize = 65;
@@ -41,6 +41,7 @@ pub const NMS_OPEN_ALREADY: u32 = 17;
 pub const NMS_NULL: u32 = 18;
 pub const NMS_ROOM: u32 = 19;
 pub const NMS_WRONG_ABI: u32 = 20;
+pub const NMS_NO_VIEW: u32 = 21;
 pub const NMS_L1_UNKNOWN_KIND: u32 = 101;
 pub const NMS_L2_FIELD_COUNT: u32 = 102;
 pub const NMS_L3_UNKNOWN_PARTICIPANT: u32 = 103;
@@ -111,6 +112,13 @@ pub const NMS_MARGINAL: u32 = 2;
 #[repr(C)]
 #[derive(Debug)]
 pub struct nms_board {
+    pub mark: u64,
+    pub at: *mut c_void,
+}
+
+#[repr(C)]
+#[derive(Debug)]
+pub struct nms_terms {
     pub mark: u64,
     pub at: *mut c_void,
 }
@@ -197,7 +205,8 @@ impl Default for nms_rows {
 pub struct nms_view {
     pub version: u64,
     pub market: u32,
-    pub spare: u32,
+    pub sym: u16,
+    pub spare: u16,
     pub bid: nms_rows,
     pub offer: nms_rows,
 }
@@ -370,6 +379,8 @@ const _: () = {
     assert!(size_of::<*mut c_void>() == 8);
     assert!(size_of::<nms_board>() == 16);
     assert!(offset_of!(nms_board, at) == 8);
+    assert!(size_of::<nms_terms>() == 16);
+    assert!(offset_of!(nms_terms, at) == 8);
     assert!(size_of::<nms_change>() == 32);
     assert!(offset_of!(nms_change, offer_price) == 8);
     assert!(offset_of!(nms_change, bid_shares) == 16);
@@ -398,6 +409,8 @@ const _: () = {
     assert!(size_of::<nms_view>() == 1456);
     assert!(offset_of!(nms_view, bid) == 16);
     assert!(offset_of!(nms_view, offer) == 736);
+    assert!(offset_of!(nms_view, market) == 8);
+    assert!(offset_of!(nms_view, sym) == 12);
     assert!(size_of::<nms_through>() == 1552);
     assert!(offset_of!(nms_through, bid) == 16);
     assert!(offset_of!(nms_through, offers) == 12);
@@ -442,23 +455,32 @@ unsafe extern "C" {
     pub fn nms_raw_open(setup: *const u8, setup_bytes: usize, board: *mut nms_board) -> u32;
     pub fn nms_raw_setup_place(setup: *const u8, setup_bytes: usize, place: *mut nms_place) -> u32;
     pub fn nms_raw_close(board: *mut nms_board) -> u32;
-    pub fn nms_raw_counts_of(board: *mut nms_board, counts: *mut nms_counts) -> u32;
-    pub fn nms_raw_find_part(board: *mut nms_board, name: *const u8, name_bytes: usize, part: *mut u8) -> u32;
-    pub fn nms_raw_find_sym(board: *mut nms_board, name: *const u8, name_bytes: usize, sym: *mut u16) -> u32;
-    pub fn nms_raw_part_name(board: *mut nms_board, part: u8, out: *mut u8, room: usize, bytes: *mut usize) -> u32;
-    pub fn nms_raw_sym_name(board: *mut nms_board, sym: u16, out: *mut u8, room: usize, bytes: *mut usize) -> u32;
+    pub fn nms_raw_counts_of(look: *mut nms_board, counts: *mut nms_counts) -> u32;
+    pub fn nms_raw_find_part(look: *mut nms_board, name: *const u8, name_bytes: usize, part: *mut u8) -> u32;
+    pub fn nms_raw_find_sym(look: *mut nms_board, name: *const u8, name_bytes: usize, sym: *mut u16) -> u32;
+    pub fn nms_raw_part_name(look: *mut nms_board, part: u8, out: *mut u8, room: usize, bytes: *mut usize) -> u32;
+    pub fn nms_raw_sym_name(look: *mut nms_board, sym: u16, out: *mut u8, room: usize, bytes: *mut usize) -> u32;
     pub fn nms_raw_apply(board: *mut nms_board, change: *const nms_change) -> u32;
     pub fn nms_raw_apply_all(board: *mut nms_board, changes: *const nms_change, count: usize, applied: *mut usize) -> u32;
     pub fn nms_raw_apply_text(board: *mut nms_board, record: *const u8, record_bytes: usize) -> u32;
-    pub fn nms_raw_best_of(board: *mut nms_board, sym: u16, best: *mut nms_best) -> u32;
-    pub fn nms_raw_ranked(board: *mut nms_board, sym: u16, side: u8, place: u8, row: *mut nms_row) -> u32;
-    pub fn nms_raw_rows_of(board: *mut nms_board, sym: u16, side: u8, rows: *mut nms_rows) -> u32;
-    pub fn nms_raw_view_of(board: *mut nms_board, sym: u16, view: *mut nms_view) -> u32;
-    pub fn nms_raw_traded_through(board: *mut nms_board, sym: u16, millionths: u64, through: *mut nms_through) -> u32;
-    pub fn nms_raw_plan_order(board: *mut nms_board, order: *const nms_order, plan: *mut nms_plan) -> u32;
-    pub fn nms_raw_confirm(board: *mut nms_board, order: *const nms_order, plan: *const nms_plan, doubt: *mut nms_doubt) -> u32;
-    pub fn nms_raw_unit_cost(board: *mut nms_board, part: u8, side: u8, price: u64, nanodollars: *mut i64) -> u32;
+    pub fn nms_raw_best_of(look: *mut nms_board, sym: u16, best: *mut nms_best) -> u32;
+    pub fn nms_raw_ranked(look: *mut nms_board, sym: u16, side: u8, place: u8, row: *mut nms_row) -> u32;
+    pub fn nms_raw_rows_of(look: *mut nms_board, sym: u16, side: u8, rows: *mut nms_rows) -> u32;
+    pub fn nms_raw_view_of(look: *mut nms_board, sym: u16, view: *mut nms_view) -> u32;
+    pub fn nms_raw_traded_through(look: *mut nms_board, sym: u16, millionths: u64, through: *mut nms_through) -> u32;
+    pub fn nms_raw_plan_order(look: *mut nms_board, order: *const nms_order, plan: *mut nms_plan) -> u32;
+    pub fn nms_raw_confirm(look: *mut nms_board, order: *const nms_order, plan: *const nms_plan, doubt: *mut nms_doubt) -> u32;
+    pub fn nms_raw_unit_cost(look: *mut nms_board, part: u8, side: u8, price: u64, nanodollars: *mut i64) -> u32;
     pub fn nms_raw_plan_text(board: *mut nms_board, order: *const nms_order, plan: *const nms_plan, out: *mut u8, room: usize, bytes: *mut usize) -> u32;
     pub fn nms_raw_read_plan(board: *mut nms_board, text: *const u8, text_bytes: usize, order: *mut nms_order, plan: *mut nms_plan) -> u32;
-    pub fn nms_raw_opening_of(board: *mut nms_board, sym: u16, opening: *mut nms_opening) -> u32;
+    pub fn nms_raw_opening_of(look: *mut nms_board, sym: u16, opening: *mut nms_opening) -> u32;
+    pub fn nms_raw_terms_open(setup: *const u8, setup_bytes: usize, terms: *mut nms_terms) -> u32;
+    pub fn nms_raw_terms_close(terms: *mut nms_terms) -> u32;
+    pub fn nms_raw_terms_find_part(look: *mut nms_terms, name: *const u8, name_bytes: usize, part: *mut u8) -> u32;
+    pub fn nms_raw_terms_find_sym(look: *mut nms_terms, name: *const u8, name_bytes: usize, sym: *mut u16) -> u32;
+    pub fn nms_raw_terms_part_name(look: *mut nms_terms, part: u8, out: *mut u8, room: usize, bytes: *mut usize) -> u32;
+    pub fn nms_raw_terms_sym_name(look: *mut nms_terms, sym: u16, out: *mut u8, room: usize, bytes: *mut usize) -> u32;
+    pub fn nms_raw_plan_view(look: *mut nms_terms, view: *const nms_view, order: *const nms_order, plan: *mut nms_plan) -> u32;
+    pub fn nms_raw_confirm_view(look: *mut nms_terms, view: *const nms_view, order: *const nms_order, plan: *const nms_plan, doubt: *mut nms_doubt) -> u32;
+    pub fn nms_raw_through_view(view: *const nms_view, millionths: u64, through: *mut nms_through) -> u32;
 }

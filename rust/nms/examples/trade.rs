@@ -36,7 +36,7 @@ fn trade(setup: &str) -> Result<(), Error> {
         }
     }
 
-    // Looks take `&self`, so two threads may make them at once; a change or a plan can't come between.
+    // Looks take `&self`, so two threads may make them at once; a change can't come between.
     let shared = &board;
     let (bid, offer) = thread::scope(|scope| {
         let bid = scope.spawn(|| shared.rows(abc, Side::Bid).map(|rows| rows.len()));

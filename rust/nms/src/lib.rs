@@ -26,8 +26,10 @@
 //! # Ok::<(), nms::Error>(())
 //! ```
 //!
-//! Prices are whole 1/10,000 dollars, sizes are shares, money is whole nanodollars. Only [`Board::open`] and [`setup_place`]
-//! take memory of the library.
+//! A [`View`] is a value: [`Terms`] plan and confirm on it, in any number of threads, with no board and no lock.
+//!
+//! Prices are whole 1/10,000 dollars, sizes are shares, money is whole nanodollars. Only [`Board::open`], [`Terms::open`] and
+//! [`setup_place`] take memory of the library.
 #![warn(missing_docs)]
 
 use nms_sys as sys;
@@ -35,7 +37,7 @@ use std::fmt;
 use std::ptr::null_mut;
 
 pub use nms_sys;
-pub use sys::{nms_change as RawChange, nms_counts as Counts, nms_doubt as Doubt, nms_order as RawOrder, nms_place as Place, nms_plan as RawPlan};
+pub use sys::{nms_change as RawChange, nms_counts as Counts, nms_doubt as Doubt, nms_order as RawOrder, nms_place as Place, nms_plan as RawPlan, nms_view as View};
 
 /// A call that was refused.
 #[derive(Clone, Copy, Debug, PartialEq, Eq, Hash)]
@@ -55,6 +57,8 @@ pub enum Error {
     Full,
     /// The library has another layout than this crate.
     WrongAbi,
+    /// No look shows such a view: a torn copy, or numbers that no look wrote.
+    NoView,
     /// A record, or the text of a plan, is refused: 1 to 14 for L1 to L14.
     Record(u8),
     /// Any other code of `enum nms_code`.
@@ -71,6 +75,7 @@ impl Error {
             sys::NMS_NO_SYM => Error::NoSym,
             sys::NMS_FULL => Error::Full,
             sys::NMS_WRONG_ABI => Error::WrongAbi,
+            sys::NMS_NO_VIEW => Error::NoView,
             101..=114 => Error::Record((code - 100) as u8),
             _ => Error::Other(code),
         }
@@ -86,6 +91,7 @@ impl Error {
             Error::NoSym => sys::NMS_NO_SYM,
             Error::Full => sys::NMS_FULL,
             Error::WrongAbi => sys::NMS_WRONG_ABI,
+            Error::NoView => sys::NMS_NO_VIEW,
             Error::Record(number) => 100 + u32::from(number),
             Error::Other(code) => code,
         }
@@ -112,6 +118,14 @@ pub type Result<T> = std::result::Result<T, Error>;
 
 fn must(code: u32) -> Result<()> {
     if code == sys::NMS_OK { Ok(()) } else { Err(Error::of(code)) }
+}
+
+/// The version of the library, such as 0.2.0.
+pub fn version() -> Result<String> {
+    let (mut text, mut bytes) = ([0; sys::NMS_CODE_TEXT_ROOM], 0);
+    // SAFETY: the buffer and the length are ours, and live through the call.
+    must(unsafe { sys::nms_raw_version(text.as_mut_ptr(), text.len(), &mut bytes) })?;
+    Ok(String::from_utf8_lossy(&text[..bytes]).into_owned())
 }
 
 fn must_fit() -> Result<()> {
@@ -230,6 +244,21 @@ pub struct Through {
     pub bids: Vec<Row>,
     /// The offers, by participant.
     pub offers: Vec<Row>,
+}
+
+impl Through {
+    /// What an execution at a price trades through on a view. The price is in 1/1,000,000 dollars.
+    pub fn of(view: &View, millionths: u64) -> Result<Through> {
+        let mut it = sys::nms_through::default();
+        // SAFETY: both pointers are those of references, which live through the call.
+        must(unsafe { sys::nms_raw_through_view(view, millionths, &mut it) })?;
+        Ok(Through::from(&it))
+    }
+
+    fn from(it: &sys::nms_through) -> Through {
+        let rows = |rows: &[sys::nms_row]| rows.iter().filter_map(Row::of).collect();
+        Through { version: it.version, bids: rows(&it.bid), offers: rows(&it.offer) }
+    }
 }
 
 /// A change of the board. A side is a price and shares, or none.
@@ -378,8 +407,8 @@ pub struct Board(sys::nms_board);
 
 // SAFETY: the library keeps no state besides the board, and lets it change threads if a move, a lock or a join orders them.
 unsafe impl Send for Board {}
-// SAFETY: every method with `&self` is a look: the library only reads the board in it, and stores in a copy of the handle that
-// the call owns. That is tested (tests/readers.c), and not proved.
+// SAFETY: every method with `&self` is a look: it is proved that the library only reads the board in it, with a share of the
+// right to, and stores in a copy of the handle that the call owns.
 unsafe impl Sync for Board {}
 
 impl Board {
@@ -464,12 +493,27 @@ impl Board {
         Ok((0..it.count as usize).map(row).collect())
     }
 
+    /// The row at a place of a side's rank order, from 0 on. None if the side has fewer rows.
+    pub fn ranked(&self, sym: Sym, side: Side, place: u8) -> Result<Option<Row>> {
+        let mut row = sys::nms_row::default();
+        match unsafe { sys::nms_raw_ranked(&mut self.look(), sym.0, side as u8, place, &mut row) } {
+            sys::NMS_NONE => Ok(None),
+            code => must(code).map(|()| Row::of(&row)),
+        }
+    }
+
+    /// All that a look at a symbol shows, as a value for [`Terms`] and [`Through::of`].
+    pub fn view(&self, sym: Sym) -> Result<View> {
+        let mut view = View::default();
+        must(unsafe { sys::nms_raw_view_of(&mut self.look(), sym.0, &mut view) })?;
+        Ok(view)
+    }
+
     /// The protected quotations that an execution at a price trades through. The price is in 1/1,000,000 dollars.
     pub fn traded_through(&self, sym: Sym, millionths: u64) -> Result<Through> {
         let mut it = sys::nms_through::default();
         must(unsafe { sys::nms_raw_traded_through(&mut self.look(), sym.0, millionths, &mut it) })?;
-        let rows = |rows: &[sys::nms_row]| rows.iter().filter_map(Row::of).collect();
-        Ok(Through { version: it.version, bids: rows(&it.bid), offers: rows(&it.offer) })
+        Ok(Through::from(&it))
     }
 
     /// What one share costs with a participant's fee, in nanodollars; negative for a sale.
@@ -480,9 +524,9 @@ impl Board {
     }
 
     /// The best lawful plan for an order.
-    pub fn plan(&mut self, order: Order) -> Result<Plan> {
+    pub fn plan(&self, order: Order) -> Result<Plan> {
         let mut raw = RawPlan::default();
-        must(unsafe { sys::nms_raw_plan_order(&mut self.0, &order.0, &mut raw) })?;
+        must(unsafe { sys::nms_raw_plan_order(&mut self.look(), &order.0, &mut raw) })?;
         Ok(Plan { order: order.0, raw })
     }
 
@@ -520,5 +564,81 @@ impl Board {
 impl Drop for Board {
     fn drop(&mut self) {
         unsafe { sys::nms_raw_close(&mut self.0) };
+    }
+}
+
+/// The roster and the fees of a setup, which never change. Every method takes `&self`, and any number of threads may call at
+/// once, each on a view of its own.
+#[derive(Debug)]
+pub struct Terms(sys::nms_terms);
+
+// SAFETY: the library keeps no state besides the terms, and lets them change threads if a move, a lock or a join orders them.
+unsafe impl Send for Terms {}
+// SAFETY: as with a board, and no method writes.
+unsafe impl Sync for Terms {}
+
+impl Terms {
+    /// Opens terms from the text of a setup.
+    pub fn open(setup: &str) -> Result<Terms> {
+        must_fit()?;
+        let mut terms = Terms(sys::nms_terms { mark: 0, at: null_mut() });
+        must(unsafe { sys::nms_raw_terms_open(setup.as_ptr(), setup.len(), &mut terms.0) })?;
+        Ok(terms)
+    }
+
+    /// The handle's copy for one call, as that of a board.
+    fn look(&self) -> sys::nms_terms {
+        let sys::nms_terms { mark, at } = self.0;
+        sys::nms_terms { mark, at }
+    }
+
+    /// The number of a participant: look it up once.
+    pub fn part(&self, name: &str) -> Result<Part> {
+        let mut number = 0;
+        must(unsafe { sys::nms_raw_terms_find_part(&mut self.look(), name.as_ptr(), name.len(), &mut number) })?;
+        Ok(Part(number))
+    }
+
+    /// The number of a symbol: look it up once.
+    pub fn sym(&self, name: &str) -> Result<Sym> {
+        let mut number = 0;
+        must(unsafe { sys::nms_raw_terms_find_sym(&mut self.look(), name.as_ptr(), name.len(), &mut number) })?;
+        Ok(Sym(number))
+    }
+
+    /// The name of a participant.
+    pub fn part_name(&self, part: Part) -> Result<String> {
+        let (mut text, mut bytes) = ([0; sys::NMS_NAME_ROOM], 0);
+        must(unsafe { sys::nms_raw_terms_part_name(&mut self.look(), part.0, text.as_mut_ptr(), text.len(), &mut bytes) })?;
+        Ok(String::from_utf8_lossy(&text[..bytes]).into_owned())
+    }
+
+    /// The name of a symbol.
+    pub fn sym_name(&self, sym: Sym) -> Result<String> {
+        let (mut text, mut bytes) = ([0; sys::NMS_NAME_ROOM], 0);
+        must(unsafe { sys::nms_raw_terms_sym_name(&mut self.look(), sym.0, text.as_mut_ptr(), text.len(), &mut bytes) })?;
+        Ok(String::from_utf8_lossy(&text[..bytes]).into_owned())
+    }
+
+    /// The best lawful plan for an order on a view.
+    pub fn plan(&self, view: &View, order: Order) -> Result<Plan> {
+        let mut raw = RawPlan::default();
+        must(unsafe { sys::nms_raw_plan_view(&mut self.look(), view, &order.0, &mut raw) })?;
+        Ok(Plan { order: order.0, raw })
+    }
+
+    /// Whether a plan is lawful and the best one for its order on a view: nothing if it is, else why not.
+    pub fn confirm(&self, view: &View, plan: &Plan) -> Result<Option<Doubt>> {
+        let mut doubt = Doubt::default();
+        match unsafe { sys::nms_raw_confirm_view(&mut self.look(), view, &plan.order, &plan.raw, &mut doubt) } {
+            sys::NMS_DOUBTED => Ok(Some(doubt)),
+            code => must(code).map(|()| None),
+        }
+    }
+}
+
+impl Drop for Terms {
+    fn drop(&mut self) {
+        unsafe { sys::nms_raw_terms_close(&mut self.0) };
     }
 }

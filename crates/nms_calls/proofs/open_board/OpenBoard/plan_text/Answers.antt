@@ -21,13 +21,13 @@ returns-clause-written c =
     ap (λ (roster : Listing). order_said (sizes_of roster) n) (sym c.roster.ensures) ∙ sym c.in_ok-order.ensures.order in
     let is : plan_said (length opened.settings.roster.parts) order m ≡ Ok made =
     ap (λ (roster : Listing). plan_said (length roster.parts) order m) (sym c.roster-2.ensures) ∙ c.in_ok-plan.ensures in
-    let whole : made_said opened n m ≡ Ok (order, made) = made-when opened n m order made said is in
+    let whole : made_said opened.settings n m ≡ Ok (order, made) = made-when opened n m order made said is in
     let out = c.put_text.new.out in let bytes = c.put_text.new.bytes in
     let text_is : c.as_slice.result.now ≡ plan_text opened.settings.roster made.plan made.cuts =
     c.as_slice.ensures.value ∙ c.in-Ok.ensures
     ∙ ap (λ (before : List ℕ). before ++ plan_text c.roster-3.result.now made.plan made.cuts) c.clear.ensures.items
     ∙ ap (λ (roster : Listing). plan_text roster made.plan made.cuts) c.roster-3.ensures in
-    subst (λ (o : Opened). OnOk c.put_text.result (IfOk (made_said o n m)
+    subst (λ (o : Opened). OnOk c.put_text.result (IfOk (made_said o.settings n m)
     (λ both. IsWritten (plan_text o.settings.roster both.1.plan both.1.cuts) c.args.out.now out bytes))) c.self.view_is
     (on_ok_weaker c.put_text.result
     (λ written. rw whole (subst (λ (text : List ℕ). IsWritten text c.args.out.now out bytes) text_is written))
