@@ -1,13 +1,12 @@
 #!/usr/bin/env python3
 """Runs every example of examples/ and every case, and compares what comes on both streams and the status with what must come.
 
-    tests/check.py [PROGRAM [EXAMPLES]]      PROGRAM is nms_tool, EXAMPLES is nms_examples
+    tests/check.py [PROGRAM [REVIEW [FILE]]]      PROGRAM is nms_tool, REVIEW is nms_review; only the cases of FILE, if it is given
 
-PROGRAM runs what a call of it shows, EXAMPLES what no call shows whole; given by itself, PROGRAM runs only its own part. None
-is left out by forgetting: the runs are the rows of the table in examples/README.md, and each file of examples/ has to be
-named by one. The cases are all of cases/, of streams.cases, of the stored input of nms_examples, of made.py and of drawn.py.
-A kind of case that is not known fails. The stored input is what both compilers run, so it has to have each kind of case that
-EXAMPLES runs, and each kind of record.
+kinds.py has the runs that show a case. Given by itself, PROGRAM runs only its own. No file is left out by forgetting: the runs
+are the rows of the table in examples/README.md, and each file of examples/ has to be named by one. The cases are all of cases/,
+of streams.cases, of made.py and of drawn.py. A kind of case that is not known fails. Both compilers run the stored input of
+nms_tool, so it has to have each kind of record.
 """
 import os
 import re
@@ -15,14 +14,15 @@ import sys
 
 import drawn
 import made
-from stored import EXAMPLES, TESTS, Call, Case, bytes_of, cases_of, command, programs, read
+import refuse
+from kinds import KINDS, REVIEW, TOOL, counted
+from stored import EXAMPLES, TESTS, Call, cases_of, programs, read
 from trials import Trial, Wrong, compare, run
 
-# Kinds of case that no call shows.
-BELOW = {"breach", "lines", "numbers", "plan", "rewrite", "settings", "steps", "text", "trials"}
-# Those that a call does not show whole: of a script not the counts, of a doubt not the cut.
-PARTLY = {"script", "check"}
-STORED, RECORDS = "nms_examples/stdin", set("QSXRTFPLNEO")
+STORED, RECORDS = "nms_tool/stdin", set("QSXRTFPLNEO")
+# Codes that end no run: a wrong feed in a file that has none, a desk without a reading, a gate that stays closed. Trials of nms_examples
+# have their statuses.
+NEVER = {"L9", "E8", "E9"}
 
 
 # The examples that have files of their own.
@@ -61,104 +61,59 @@ def example(row):
     return Call(words, status, answers, errors, files, given), {os.path.basename(it) for it in named} | set(outputs)
 
 
-def counted(call):
-    """The case of an example's script, with its counts: all that it takes is published. None if the call runs no script."""
+def with_counts(call):
+    """An example's script with its counts: all that it takes is published. None if the call runs no script."""
     status, answers, _ = call.wanted
     if call.words[:1] not in ([], ["script"]) or status:
         return None
-    published = re.findall(rb"^PUB,(\d+)$", answers, re.M)[-1].decode()
-    counts = f"{len(call.given.splitlines())} read, {answers.count(b'ERR,')} refused, {published} taken, {published} published\n"
-    setup = call.files[call.words[-1]] if "--setup" in call.words else b""
-    return Case("examples", "script of an example", call.given + b"-- gives\n" + answers + counts.encode(), setup)
+    published = int(re.findall(rb"^PUB,(\d+)$", answers, re.M)[-1])
+    refused, read_records = answers.count(b"ERR,"), len(call.given.splitlines())
+    return counted(call.words[1:], call.files, call.given, answers, read_records, refused, published, published)
 
 
 # The cases.
 
 
-def exits(cases):
-    """The exit status of each code."""
-    rows = next(it.gives for it in cases if it.title == "text exits").decode().split("\n")
-    return {f"nms_tool: {row.split(' ')[0]}\n".encode(): int(row.split(" ")[1]) for row in rows if row}
-
-
-def under(case):
-    """The words and the file by which a call has the setup of a case."""
-    if case.setup is None:
-        raise Wrong("no setup stands before it")
-    return (["--setup", "setup.toml"], {"setup.toml": case.setup}) if case.setup else ([], {})
-
-
-def ends(case, statuses, counted):
-    """The status, the answers and the line of a fault that a script or a report must give."""
-    *lines, last = case.gives.splitlines(keepends=True) or [b""]
-    if last in statuses:
-        return statuses[last], b"".join(lines), last
-    return 0, b"".join(lines) if counted else case.gives, b""
-
-
-def script(case, statuses):
-    option, files = under(case)
-    return Call(["script", *option], *ends(case, statuses, True), files, bytes_of(case.body))
-
-
-def report(case, statuses):
-    option, files = under(case)
-    files["given.changes"] = bytes_of(case.body)
-    return Call(["report", "given.changes", case.title.split(" ")[1], *option], *ends(case, statuses, False), files)
-
-
-def check(case, _):
-    option, files = under(case)
-    changes, found, plan = bytes_of(case.body).partition(b"-- plan\n")
-    if not found:
-        raise Wrong("no line `-- plan`")
-    files.update({"given.changes": changes, "given.plan": plan})
-    words = case.gives.split()
-    if words == [b"confirmed"]:
-        status, answer = 0, b"CONFIRMED\n"
-    else:
-        # Which cut fails is part of the value, and not of what the program prints.
-        status, answer = 4, b",".join([b"DOUBT", *words[: 2 if words[:1] == [b"K1"] else 1]]) + b"\n"
-    return Call(["check", "given.changes", "given.plan", *option], status, answer, b"", files)
-
-
-KINDS = {"script": script, "report": report, "check": check, "command": lambda case, _: command(case), "stream": lambda case, _: command(case)}
-
-
-def section(case):
-    """The run of EXAMPLES that shows a case."""
-    _, files = under(case)
-    head = f"== {case.title}\n".encode()
-    return Call([], 0, head + case.gives, b"", given=b"== setup\n" + files.get("setup.toml", b"") + head + case.body)
-
-
-def calls_of(case, statuses, program, examples):
-    """The runs that show a case, each with its program."""
-    if case.kind not in BELOW and case.kind not in KINDS:
-        raise Wrong("a kind of case that is not known")
-    if not case.has_gives:
-        raise Wrong("no line `-- gives`")
-    if case.kind in KINDS:
-        yield program, KINDS[case.kind](case, statuses)
-    if case.kind in BELOW | PARTLY:
-        yield examples, section(case)
-
-
 def all_cases():
     """The cases of all files, and those that are made and drawn."""
     texts = {name: read("cases", name) for name in sorted(os.listdir(f"{TESTS}/cases"))}
-    texts |= {"streams.cases": read("streams.cases"), STORED: read("../crates", STORED), "made.py": made.cases().encode()}
+    texts |= {"streams.cases": read("streams.cases"), "made.py": made.cases().encode()}
     texts |= {f"drawn.py, {kind}": drawn.cases(kind).encode() for kind in drawn.KINDS}
-    found = [case for name, text in texts.items() for case in cases_of(name, text)]
-    return [*found, Case("builtin.toml", "text built-in setup", b"-- gives\n" + example_file("builtin.toml"), b"")]
+    return [case for name, text in texts.items() for case in cases_of(name, text)]
 
 
-def has_each_kind(cases):
-    """Raises if the stored input has not a case of each kind that EXAMPLES runs, and a record of each kind."""
-    compare("kinds of case", {it.kind for it in cases}, BELOW | PARTLY)
-    for kind in ("script", "lines"):
-        records = {line[:1].decode() for it in cases if it.kind == kind for line in it.body.splitlines()}
-        compare(f"kinds of record in {kind} that are lacking", RECORDS - records, set())
+def exits():
+    """The exit status of each line by which a code ends the program."""
+    (table,) = [it for it in cases_of("texts.cases", read("cases", "texts.cases")) if it.title == "text exits"]
+    rows = (row.split(" ") for row in table.gives.decode().splitlines())
+    return {f"nms_tool: {code}\n".encode(): int(status) for code, status in rows}
+
+
+def each_exit(statuses, calls):
+    """Raises if a call has to end with a code and another status than the table says. Of a code that no call ends with, memory
+    was refused: refuse.py and hostile.py look at those runs."""
+    unseen = dict(statuses)
+    for status, _, errors in (it.wanted for it in calls):
+        if errors in statuses:
+            compare(errors.decode(), status, statuses[errors])
+            unseen.pop(errors, None)
+    for line, status in unseen.items():
+        code = line.decode().split()[1]
+        if code not in NEVER:
+            compare(code, status, refuse.STATUS.get(code, 5))
+
+
+def has_each_record():
+    """Raises if the stored input of nms_tool lacks a kind of record."""
+    records = {line[:1].decode() for line in read("../crates", STORED).splitlines()}
+    compare("kinds of record that are lacking", RECORDS - records, set())
+
+
+def holds_builtin(program):
+    """The program's own setup is examples/builtin.toml, letter for letter."""
+    with open(program, "rb") as file:
+        if example_file("builtin.toml") not in file.read():
+            raise Wrong("the program does not hold this text")
 
 
 def longest():
@@ -178,29 +133,49 @@ def differs(text):
     raise Wrong(text)
 
 
-def trials(program, examples=None):
+def trials(program, review=None, file=None):
     """Each example, each case, and a failed one for each file that none of them names."""
-    found, named, cases = [(name, call.run, (program,)) for name, call in longest()], {"README.md"}, all_cases()
-    statuses = exits(cases)
+    path, statuses = {TOOL: program, REVIEW: review}, exits()
+    found, named, calls = [], {"README.md", "builtin.toml"}, []
 
     def take(name, make):
         try:
-            found.extend((name if by == program else f"{name}, by nms_examples", call.run, (by,)) for by, call in make() if by)
-        except (Wrong, OSError, ValueError) as fault:
+            for by, call in make():
+                calls.append(call)
+                if path[by]:
+                    found.append((name if by == TOOL else f"{name}, by {by}", call.run, (path[by],)))
+        except (Wrong, OSError, ValueError, LookupError) as fault:
             found.append((name, differs, (str(fault),)))
 
     def of_row(row):
         call, files = example(row)
         named.update(files)
-        yield program, call
-        if case := counted(call):
-            yield examples, section(case)
+        yield TOOL, call
+        if whole := with_counts(call):
+            yield TOOL, whole
 
+    def of_case(case):
+        if case.kind not in KINDS:
+            raise Wrong("a kind of case that is not known")
+        if not case.has_gives:
+            raise Wrong("no line `-- gives`")
+        yield from KINDS[case.kind](case, statuses)
+
+    if file:
+        with open(file, "rb") as it:
+            for case in cases_of(file, it.read()):
+                take(case.name, lambda case=case: of_case(case))
+        return [Trial(*it) for it in found]
+    for name, call in longest():
+        take(name, lambda call=call: [(TOOL, call)])
     for row in table():
         take(row[0], lambda row=row: of_row(row))
-    for case in cases:
-        take(case.name, lambda case=case: calls_of(case, statuses, program, examples))
-    found.append((f"{STORED}: each kind", has_each_kind, ([it for it in cases if it.file == STORED],)))
+    for case in all_cases():
+        if case.title != "text exits":
+            take(case.name, lambda case=case: of_case(case))
+    found.append(("texts.cases: each exit", each_exit, (statuses, calls)))
+    found.append((f"{STORED}: each kind of record", has_each_record, ()))
+    found.append(("examples/builtin.toml", holds_builtin, (program,)))
     files = [it for it in sorted(os.listdir(EXAMPLES)) if os.path.isfile(os.path.join(EXAMPLES, it))]
     found += [(f"examples/{it}", differs, ("no example runs it or compares with it",)) for it in files if it not in named]
     strays = [it for it in os.listdir(f"{TESTS}/cases") if not it.endswith(".cases")]
@@ -208,5 +183,5 @@ def trials(program, examples=None):
 
 
 if __name__ == "__main__":
-    NAMES = ("nms_tool",) if len(sys.argv) == 2 else ("nms_tool", "nms_examples")
-    sys.exit(run("examples", trials(*programs(sys.argv[1:], *NAMES))))
+    NAMES, FILE = (TOOL, REVIEW)[: 1 if len(sys.argv) == 2 else 2], sys.argv[3] if len(sys.argv) == 4 else None
+    sys.exit(run("examples", trials(*programs(sys.argv[1:3], *NAMES), file=FILE)))

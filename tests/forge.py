@@ -1,12 +1,13 @@
 #!/usr/bin/env python3
 """Forges plans: takes some that are confirmed, changes one field at a time, and compares what an audit finds.
 
-    tests/forge.py [EXAMPLES [PROGRAM]]      EXAMPLES is nms_examples, PROGRAM is nms_tool
+    tests/forge.py [REVIEW [PROGRAM]]      REVIEW is nms_review, PROGRAM is nms_tool
 
 What must be found is `doubt` of rules.py: the least that holds; or none, if the forged plan is itself one than which no way
-to spread the shares is better. EXAMPLES judges the forged fields of a plan in one run, PROGRAM is called with each
-forged text: records that are gone, doubled, added, in another order, or too many. A forged plan that differs is made as
-small as it can be. The trials are `plan N` and `texts of plan N`, counted from 0; they count what they forge.
+to spread the shares is better. REVIEW judges the forged fields of a plan in one run, with the cut of a doubt. PROGRAM is called
+with each of these plans, and of some also with texts that say no plan: records that are gone, doubled, added, in another order,
+or too many. A forged plan that differs is made as small as it can be. The trials are `plan N`, `audits of plan N` and `texts of plan N`,
+counted from 0; they count what they forge.
 """
 import random
 import subprocess
@@ -14,6 +15,7 @@ import sys
 import tempfile
 
 from drawn import changes_of, drawn_audit, drawn_plan
+from kinds import answer_to, verdicts
 from rules import FEES, RANGE, best_way, cost_of, doubt, records_of, usable
 from stored import MOST, programs
 from trials import Several, Trial, Wrong, least, run
@@ -141,36 +143,68 @@ def lawful_plans(chance, count):
             yield it
 
 
-def found_by(examples, plans):
-    """What `nms_examples` finds of each plan, in one run; `as it must` if it is what is wanted."""
-    cases = (f"== check {at}\n{it.changes()}-- plan\n{it.text()}-- gives\n{it.finding()}\n" for at, it in enumerate(plans))
-    text = "== setup\n" + "".join(cases)
-    ran = subprocess.run([examples], input=text.encode(), capture_output=True, timeout=MOST, check=False)
-    heads = (it.split("\n", 1) for it in ran.stdout.decode(errors="replace").split("== check ")[1:])
-    found = {int(at): " ".join(it.split()) for at, it in heads}
-    if ran.returncode and set(found.values()) == {"as it must"}:
-        return [f"status {ran.returncode}"] * len(plans)
-    return [found.get(at, f"nothing, status {ran.returncode}") for at in range(len(plans))]
+def ran_on(program, words, changes, plan):
+    """A run of a program on a file of changes and on a text of plans."""
+    with tempfile.TemporaryDirectory(prefix="nms-") as room:
+        for name, it in (("changes", changes), ("plan", plan)):
+            with open(f"{room}/{name}", "w", encoding="utf-8") as file:
+                file.write(it)
+        return subprocess.run([program, "check", "changes", "plan", *words], cwd=room, capture_output=True, timeout=MOST, check=False)
 
 
-def is_found(examples, plan):
-    return found_by(examples, [plan]) == ["as it must"]
+def found_by(review, plans):
+    """What `nms_review` finds of each of some plans on the same changes, in one run."""
+    ran = ran_on(review, ["--json"], plans[0].changes(), "".join(it.text() for it in plans))
+    found = verdicts(ran.stdout).splitlines()
+    if len(found) != len(plans) or ran.stderr or ran.returncode != (4 if {*found} != {"confirmed"} else 0):
+        return [f"status {ran.returncode}, {len(found)} verdicts on {len(plans)} plans, {ran.stderr!r}"] * len(plans)
+    return found
 
 
-def judged(examples, plan):
+def is_found(review, plan):
+    return found_by(review, [plan]) == [plan.finding()]
+
+
+def judged(review, plan):
     """How many forged fields of a plan are judged as they must be; raises the others, the first on its least parts."""
     plans = list(forged_fields(plan))
-    found = found_by(examples, plans)
-    wrong = [(it, said) for it, said in zip(plans, found) if said != "as it must"]
+    found = found_by(review, plans)
+    wrong = [(it, said) for it, said in zip(plans, found) if said != it.finding()]
     if not wrong:
         return len(plans)
     first, said = wrong[0]
-    small = first.of_parts(least(first.parts(), lambda parts: not is_found(examples, first.of_parts(parts)), 100))
-    (small, said) = (small, found_by(examples, [small])[0]) if not is_found(examples, small) else (first, said)
+    small = first.of_parts(least(first.parts(), lambda parts: not is_found(review, first.of_parts(parts)), 100))
+    (small, said) = (small, found_by(review, [small])[0]) if not is_found(review, small) else (first, said)
     shown = f"{small.changes()}-- plan\n{small.text()}-- gives\n{small.finding()}\n"
     faults = [Wrong(f"{small.finding()} is to be found, and it said: {said}", f"the least that shows it:\n{shown}")]
     faults += [Wrong(f"{it.finding()} is to be found, and it said: {said}", f"{it.changes()}{it.text()}") for it, said in wrong[1:]]
     raise Several(faults, len(plans) - len(wrong))
+
+
+def audited(program, plan):
+    """How many forged fields of a plan are answered as they must be; raises the others."""
+    return each(list(forged_fields(plan)), lambda it: is_answered(program, it))
+
+
+def is_answered(program, plan):
+    """Raises if an audit is not answered by its finding."""
+    status, answer = answer_to(plan.finding().split())
+    ran = ran_on(program, [], plan.changes(), plan.text())
+    if (ran.returncode, ran.stdout, ran.stderr) != (status, answer.encode(), b""):
+        raise Wrong(f"status {ran.returncode}, {ran.stdout!r}, {ran.stderr!r}, and not {answer!r}", plan.changes() + plan.text())
+
+
+def each(forged, look):
+    """How many forged things are as they must be; raises the others."""
+    found = []
+    for it in forged:
+        try:
+            look(it)
+        except Wrong as fault:
+            found.append(fault)
+    if found:
+        raise Several(found, len(forged) - len(found))
+    return len(forged)
 
 
 def forged_texts(plan):
@@ -198,34 +232,23 @@ def forged_texts(plan):
 
 def is_refused(program, plan, text):
     """Raises if a text is not refused as no plan."""
-    with tempfile.TemporaryDirectory(prefix="nms-") as room:
-        for name, it in (("changes", plan.changes()), ("plan", text)):
-            with open(f"{room}/{name}", "w", encoding="utf-8") as file:
-                file.write(it)
-        ran = subprocess.run([program, "check", "changes", "plan"], cwd=room, capture_output=True, timeout=MOST, check=False)
+    ran = ran_on(program, [], plan.changes(), text)
     if (ran.returncode, ran.stdout, ran.stderr) != (6, b"", b"nms_tool: L11\n"):
         raise Wrong(f"status {ran.returncode}, {ran.stdout!r}, {ran.stderr!r}, and not L11", text)
 
 
 def all_refused(program, plan):
     """How many forged texts of a plan are refused; raises the others."""
-    found, texts = [], list(forged_texts(plan))
-    for text in texts:
-        try:
-            is_refused(program, plan, text)
-        except Wrong as fault:
-            found.append(fault)
-    if found:
-        raise Several(found, len(texts) - len(found))
-    return len(texts)
+    return each(list(forged_texts(plan)), lambda text: is_refused(program, plan, text))
 
 
-def trials(examples, program):
+def trials(review, program):
     plans = list(enumerate(lawful_plans(random.Random(SEED), PLANS)))
-    yield from (Trial(f"plan {number}", judged, (examples, plan)) for number, plan in plans)
+    yield from (Trial(f"plan {number}", judged, (review, plan)) for number, plan in plans)
+    yield from (Trial(f"audits of plan {number}", audited, (program, plan)) for number, plan in plans)
     yield from (Trial(f"texts of plan {number}", all_refused, (program, plan)) for number, plan in plans[:TEXTS])
 
 
 if __name__ == "__main__":
     print(f"seed {SEED}: {PLANS} plans")
-    sys.exit(run("forged", trials(*programs(sys.argv[1:], "nms_examples", "nms_tool")), processes=True))
+    sys.exit(run("forged", trials(*programs(sys.argv[1:], "nms_review", "nms_tool")), processes=True))

@@ -129,7 +129,6 @@ def calls():
     yield Call("a report", ["report", "given.changes", "ABC", *UNDER], "E4 B1", files=changes)
     yield Call("a plan", plan, "E4 B1 L12", files=changes, unwritten="L13")
     yield Call("a check", check, "E4 A3 L12", files={**SETUP, "given.changes": OFFERS, "given.plan": PLAN})
-    yield Caller("nms_examples", "a plan read and written", f"== setup\n== rewrite a plan\n{PLAN}")
     yield Caller("nms_examples", "changes appended again", "again 0 700\n", over=10)
     yield Call("a live run", live, "E4 E6", "E7 E10 L12", files={**SETUP, **FEEDS}, unwritten="L13")
 

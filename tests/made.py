@@ -52,7 +52,7 @@ def crowd(participants, symbols):
 
 def widest(legs, cuts):
     """A plan of a number of legs and cuts, with every number as wide as it can be."""
-    yield "PLAN,99999999,S,0.ABC,999999999,9999999.9999,M,999999999,-99999999999999999999.999999999"
+    yield "PLAN,9,S,0.ABC,999999999,9999999.9999,M,999999999,-99999999999999999999.999999999"
     yield from (f"LEG,EX{it % 32 + 10},9999999.9999,999999999" for it in range(1, legs + 1))
     yield from ["CUT,9999999.9999,MARGINAL,-99999999999999999999.999999999"] * cuts
     yield "END"
@@ -65,16 +65,16 @@ def naming(places):
 
 def crowds():
     """The most participants and symbols, legs and cuts, and one more of each."""
-    full, costs, no_plan = "C8: too many participants or symbols", ["31 buy 1", "30 sell 1"], "L11: not the text of a plan"
+    full, costs, no_plan = "C8", ["31 buy 1", "30 sell 1"], "L11"
     yield ["== settings the most participants and symbols", *crowd(32, 1000), "-- gives", "9 9 2 32 1000"]
     yield ["== settings one participant too many", *crowd(33, 1), "-- gives", full]
     yield ["== settings one symbol too many", *crowd(1, 1001), "-- gives", full]
-    yield ["== settings one participant too many, and no symbol", *crowd(33, 0)[:-1], "-- gives", "C2: a key is missing"]
+    yield ["== settings one participant too many, and no symbol", *crowd(33, 0)[:-1], "-- gives", "C2"]
     yield ["== settings the last of the most participants has its own fee", *crowd(32, 1), "-- costs", *costs, "-- gives"]
     yield ["1.000000031", "-0.999999970"]
     yield ["== setup of the most participants", *crowd(32, 1)]
-    yield ["== rewrite the widest plan", *widest(32, 32), "-- gives", *widest(32, 32)]
-    yield ["== rewrite a plan that names every participant", *naming(reversed(range(32))), "-- gives", *naming(range(32))]
+    yield ["== plan the widest", *widest(32, 32), "-- gives", *widest(32, 32)]
+    yield ["== plan every participant is named", *naming(reversed(range(32))), "-- gives", *naming(range(32))]
     yield ["== plan one leg too many", *widest(33, 0), "-- gives", no_plan]
     yield ["== plan one cut too many", *widest(0, 33), "-- gives", no_plan]
 

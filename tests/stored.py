@@ -39,6 +39,12 @@ class Call:
         self.files, self.given, self.answers_to, self.errors_to = dict(files), given, answers_to, errors_to
 
     def run(self, program):
+        came = self.came(program)
+        for what, one, other in zip(("standard output", "standard error", "status"), (*came[1:], came[0]), (*self.wanted[1:], self.wanted[0])):
+            compare(what, one, other)
+
+    def came(self, program):
+        """The status, standard output and standard error of a run, which alters no file that it was given."""
         with tempfile.TemporaryDirectory(prefix="nms-") as room:
             for name, text in self.files.items():
                 os.makedirs(os.path.dirname(os.path.join(room, name)), exist_ok=True)
@@ -62,12 +68,25 @@ class Call:
             for path, to in ((answers, self.answers_to), (errors, self.errors_to)):
                 came.append(b"" if to else open_bytes(path))
             came[2] = UNPROVED.sub(b"", came[2])
-            # No call alters a file that it was given.
-            kept = [(it, open_bytes(os.path.join(room, it)), text) for it, text in self.files.items() if isinstance(text, bytes)]
-        for what, one, other in zip(("standard output", "standard error", "status"), (*came[1:], came[0]), (*self.wanted[1:], self.wanted[0])):
-            compare(what, one, other)
-        for name, one, other in kept:
-            compare(name, one, other)
+            for name, text in self.files.items():
+                if isinstance(text, bytes):
+                    compare(name, open_bytes(os.path.join(room, name)), text)
+        return came
+
+
+class Told(Call):
+    """A call of which only what a function finds in its answers is compared. It may end with one of some statuses."""
+
+    def __init__(self, words, find, wanted, files=(), given=b"", statuses=(0,)):
+        super().__init__(words, 0, b"", b"", files, given)
+        self.find, self.found, self.statuses = find, wanted, statuses
+
+    def run(self, program):
+        status, answers, errors = self.came(program)
+        compare("standard error", errors, b"")
+        if status not in self.statuses:
+            raise Wrong(f"status: {status} came, and not one of {self.statuses}")
+        compare("what it shows", self.find(answers), self.found)
 
 
 def open_bytes(path):

@@ -1,15 +1,17 @@
 //! Callers of these crates as another repository writes them; `docs/CALLING.md` shows all but `again`, which
 //! `tests/hostile.py` runs with memory refused. Here each is called once.
 mod again;
+mod board;
 mod machine;
 mod sweeping;
 mod threads;
 
 use crate::Failed;
-use crate::lines::or_failed;
-use crate::looks::{quotation, setup_text};
+use crate::lines::{around, or_failed, some_or_failed};
+use crate::offers::quotation;
+use crate::setups::{built_in, wide};
 use nms_board::Boards;
-use nms_fees::{FeeBook, Setup, read_setup};
+use nms_fees::Setup;
 use nms_quote::{Change, Feed, Order, OrderSide, PartSet, SideQuote, Sym};
 use nms_units::{Price, Shares};
 use std::alloc::Global;
@@ -17,144 +19,99 @@ use std::io::Write;
 use std::sync::Wait;
 use std::thread::Threads;
 
-/// Makes the call that a word names, with n changes, on the symbol at a place, and adds the result.
+/// What a line asks of a call.
+#[derive(Clone, Copy)]
+struct Asked<'a> {
+    setup: &'a Setup,
+    sym: Sym,
+    /// How many changes it makes.
+    count: u32,
+}
+
+/// Makes the call that a word names, on the symbol at the place and with the changes that a line says, and adds the result.
 pub(crate) fn give_call<R: AllocGlobal + Threads + Wait + Sync>(
     rt: &R,
     kind: &str,
-    sym: u16,
-    changes: u32,
+    sizes: &str,
     given: &mut Vec<u8>,
 ) -> Result<(), Failed> {
-    let Some(sym) = Sym::new(sym) else {
-        return Err(Failed);
+    let (place, count) = around(sizes, " ")?;
+    let sym = some_or_failed(Sym::new(or_failed(place.parse::<u16>())?))?;
+    let count = or_failed(count.parse::<u32>())?;
+    let setup = match kind {
+        "again" => built_in(rt.alloc())?,
+        _ => wide(rt.alloc(), 10_000_000, 2, 1)?,
     };
-    if kind == "again" {
-        return give_over(rt, again::SMALL, kind, sym, changes, given);
-    }
-    match setup_text(rt.alloc(), 1) {
-        Ok(text) => give_over(rt, text.as_str(), kind, sym, changes, given),
-        Err(_) => Err(Failed),
-    }
-}
-
-/// As above, over a setup's text.
-fn give_over<R: AllocGlobal + Threads + Wait + Sync>(
-    rt: &R,
-    text: &str,
-    kind: &str,
-    sym: Sym,
-    changes: u32,
-    given: &mut Vec<u8>,
-) -> Result<(), Failed> {
-    match read_setup(rt.alloc(), text) {
-        Ok(setup) => give_under(rt, &setup, kind, sym, changes, given),
-        Err(_) => Err(Failed),
-    }
-}
-
-/// As above, under a setup.
-fn give_under<R: AllocGlobal + Threads + Wait + Sync>(
-    rt: &R,
-    setup: &Setup,
-    kind: &str,
-    sym: Sym,
-    changes: u32,
-    given: &mut Vec<u8>,
-) -> Result<(), Failed> {
-    let alloc = rt.alloc();
+    let asked = Asked {
+        setup: &setup,
+        sym,
+        count,
+    };
     match kind {
-        "machine" => tell_machine(alloc, setup, sym, changes, given),
-        "sweep" => tell_sweep(alloc, setup, sym, changes, given),
-        "threads" => tell_threads(rt, alloc, setup, sym, changes, given),
-        "again" => tell_again(rt, alloc, setup, sym, changes, given),
+        "board" => tell_board(rt.alloc(), &asked, given),
+        "machine" => tell_machine(rt.alloc(), &asked, given),
+        "sweep" => tell_sweep(rt.alloc(), &asked, given),
+        "threads" => tell_threads(rt, &asked, given),
+        "again" => tell_again(rt, &asked, given),
         _ => Err(Failed),
     }
 }
 
-/// Adds the published version, and the participant of the best bid.
-fn tell_machine(
-    alloc: Global,
-    setup: &Setup,
-    sym: Sym,
-    changes: u32,
-    given: &mut Vec<u8>,
-) -> Result<(), Failed> {
-    let changes = changes_of(alloc, changes)?;
-    match machine::consolidate(alloc, setup, Feed::A, changes.as_slice(), sym) {
-        Ok((version, best)) => {
-            let place = best.bid.map(|row| row.part.get());
-            or_failed(writeln!(given, "{version} {place:?}"))
-        }
-        Err(_) => Err(Failed),
-    }
+/// Adds the market, whether there is a bid, and the receipt of the best offer; or why there is no answer.
+fn tell_board(alloc: Global, asked: &Asked<'_>, given: &mut Vec<u8>) -> Result<(), Failed> {
+    let changes = changes_of(alloc, asked.count)?;
+    let roster = asked.setup.roster();
+    or_failed(
+        match board::look(alloc, roster, changes.as_slice(), asked.sym) {
+            Ok((market, bid, offer)) => {
+                let receipt = offer.map(|row| row.receipt);
+                write!(given, "{market:?} {} {receipt:?}", bid.is_some())
+            }
+            Err(fault) => write!(given, "{fault:?}"),
+        },
+    )
+}
+
+/// Adds the published version, and the participant of the best bid; or why there is no answer.
+fn tell_machine(alloc: Global, asked: &Asked<'_>, given: &mut Vec<u8>) -> Result<(), Failed> {
+    let changes = changes_of(alloc, asked.count)?;
+    let (setup, changes) = (asked.setup, changes.as_slice());
+    or_failed(
+        match machine::consolidate(alloc, setup, Feed::A, changes, asked.sym) {
+            Ok((version, best)) => {
+                let place = best.bid.map(|row| row.part.get());
+                write!(given, "{version} {place:?}")
+            }
+            Err(fault) => write!(given, "{fault:?}"),
+        },
+    )
 }
 
 /// That many changes.
 fn changes_of(alloc: Global, count: u32) -> Result<Vec<Change>, Failed> {
+    // The prover has to see the types of a change before the change moves, so the code mentions them.
+    let _seen: Option<SideQuote> = None;
     let mut changes = Vec::new(alloc);
     for number in 0..count {
-        push_change(&mut changes, number)?;
+        let change = some_or_failed(quotation(u64::from(number)))?;
+        or_failed(changes.push(change))?;
     }
     Ok(changes)
 }
 
-/// One change more.
-fn push_change(changes: &mut Vec<Change>, number: u32) -> Result<(), Failed> {
-    let Some(change) = quotation(u64::from(number)) else {
-        return Err(Failed);
-    };
-    // The prover has to see the types of a change before the change moves, so the code mentions them.
-    let _seen: Option<SideQuote> = None;
-    match changes.push(change) {
-        Ok(()) => Ok(()),
-        Err(_) => Err(Failed),
-    }
-}
-
 /// Adds the shares that an order for 950 fills and its cost after n changes, and whether it was confirmed.
-fn tell_sweep(
-    alloc: Global,
-    setup: &Setup,
-    sym: Sym,
-    changes: u32,
-    given: &mut Vec<u8>,
-) -> Result<(), Failed> {
-    match Boards::new(alloc, setup.roster()) {
-        Ok(mut board) => tell_sweep_on(&mut board, setup.fees(), sym, changes, given),
-        Err(_) => Err(Failed),
-    }
-}
-
-/// As above, on an empty board.
-fn tell_sweep_on(
-    board: &mut Boards,
-    fees: &FeeBook,
-    sym: Sym,
-    changes: u32,
-    given: &mut Vec<u8>,
-) -> Result<(), Failed> {
-    apply_all(board, changes)?;
-    let Some(order) = order_of(sym) else {
-        return Err(Failed);
-    };
-    let (plan, finding) = sweeping::plan_and_confirm(board, &order, fees);
-    let is_confirmed = finding.is_ok();
-    or_failed(writeln!(given, "{} {} {is_confirmed}", plan.filled, plan.cost))
-}
-
-/// Applies n changes, those that the board takes.
-fn apply_all(board: &mut Boards, changes: u32) -> Result<(), Failed> {
-    // The prover has to see this type before a change is applied.
-    let _met: Option<SideQuote> = None;
-    for number in 0..changes {
-        let Some(change) = quotation(u64::from(number)) else {
-            return Err(Failed);
-        };
-        if board.takes(&change) {
-            board.apply(change);
+fn tell_sweep(alloc: Global, asked: &Asked<'_>, given: &mut Vec<u8>) -> Result<(), Failed> {
+    let order = some_or_failed(order_of(asked.sym))?;
+    let changes = changes_of(alloc, asked.count)?;
+    let mut board = or_failed(Boards::new(alloc, asked.setup.roster()))?;
+    for change in changes.as_slice() {
+        if board.takes(change) {
+            board.apply(*change);
         }
     }
-    Ok(())
+    let (plan, finding) = sweeping::plan_and_confirm(&board, &order, asked.setup.fees());
+    let is_confirmed = finding.is_ok();
+    or_failed(write!(given, "{} {} {is_confirmed}", plan.filled, plan.cost))
 }
 
 /// An order to buy 950 shares of a symbol at 10.00 or better.
@@ -164,37 +121,26 @@ fn order_of(sym: Sym) -> Option<Order> {
 }
 
 /// Adds how many changes each feed sent, how many were taken, and the version that the desk was settled on.
-fn tell_threads<R: Threads + Wait + Sync>(
+fn tell_threads<R: AllocGlobal + Threads + Wait + Sync>(
     rt: &R,
-    alloc: Global,
-    setup: &Setup,
-    sym: Sym,
-    changes: u32,
+    asked: &Asked<'_>,
     given: &mut Vec<u8>,
 ) -> Result<(), Failed> {
-    let Some(change) = quotation(0) else {
-        return Err(Failed);
-    };
-    let came = threads::run(rt, alloc, setup, &change, changes, sym)?;
-    let (delivered, settled) = (&came.delivered, came.settled);
-    or_failed(writeln!(given, "{:?} {} {settled}", delivered.sent, delivered.taken))
+    let change = some_or_failed(quotation(0))?;
+    let came = threads::run(rt, rt.alloc(), asked.setup, &change, asked.count, asked.sym)?;
+    let (sent, taken) = (&came.delivered.sent, came.delivered.taken);
+    or_failed(write!(given, "{sent:?} {taken} {}", came.settled))
 }
 
 /// Adds how many changes were appended at their places, how many the tape has, the version and the shares that a desk saw, and
 /// whether no change was left out.
-fn tell_again<R: Wait>(
+fn tell_again<R: AllocGlobal + Wait>(
     rt: &R,
-    alloc: Global,
-    setup: &Setup,
-    sym: Sym,
-    changes: u32,
+    asked: &Asked<'_>,
     given: &mut Vec<u8>,
 ) -> Result<(), Failed> {
-    let came = again::append_all(rt, alloc, setup, sym, changes)?;
-    let (version, shares) = came.shown;
-    or_failed(writeln!(
-        given,
-        "{} {} {version} {shares} {}",
-        came.in_place, came.tape, came.is_whole
-    ))
+    let came = again::append_all(rt, rt.alloc(), asked.setup, asked.sym, asked.count)?;
+    let (in_place, tape, (version, shares)) = (came.in_place, came.tape, came.shown);
+    let is_whole = came.is_whole;
+    or_failed(write!(given, "{in_place} {tape} {version} {shares} {is_whole}"))
 }

@@ -1,7 +1,7 @@
-//! The texts of the faults.
+//! The texts of the faults, which no program writes.
 
 use crate::Failed;
-use crate::lines::tell;
+use crate::lines::{gap_after, or_failed};
 use nms_board::BoardFault;
 use nms_engine::{
     AuditFault, ChangesFault, FeedFault, LiveFault, OrdersFault, ReportFault, ScriptFault,
@@ -14,176 +14,102 @@ use nms_quote::{Feed, RosterFault};
 use nms_units::UnitFault;
 use nms_words::WordsFault;
 use std::fmt::Display;
+use std::io::Write;
 
-/// Adds the text of each fault, a line each.
-pub(crate) fn tell_faults(given: &mut Vec<u8>) -> Result<(), Failed> {
-    tell_number_faults(given)?;
-    tell_record_faults(given)?;
-    tell_setup_faults(given)?;
-    tell_machine_faults(given)?;
-    tell_engine_faults(given)?;
-    tell_live_faults(given)?;
-    tell(given, WordsFault::NoMemory)
+/// Adds the text of each fault of a part.
+pub(crate) fn give_faults(part: &str, given: &mut Vec<u8>) -> Result<(), Failed> {
+    match part {
+        "numbers" => tell_numbers(given),
+        "records" => tell_records(given),
+        "setups" => tell_setups(given),
+        "machine" => tell_machine(given),
+        "files" => tell_files(given),
+        "live" => tell_live(given),
+        _ => Err(Failed),
+    }
 }
 
-/// Adds the texts of faults, a line each.
-fn tell_each<V: Display>(given: &mut Vec<u8>, faults: &[V]) -> Result<(), Failed> {
+/// Adds the texts of faults.
+fn tell<V: Display>(given: &mut Vec<u8>, faults: &[V]) -> Result<(), Failed> {
     for fault in faults {
-        tell(given, fault)?;
+        or_failed(write!(given, "{}{fault}", gap_after(given)))?;
     }
     Ok(())
 }
 
-/// Adds those of numbers and of rosters.
-fn tell_number_faults(given: &mut Vec<u8>) -> Result<(), Failed> {
-    tell_each(
-        given,
-        &[
-            UnitFault::BadPrice,
-            UnitFault::ZeroPrice,
-            UnitFault::BadShares,
-            UnitFault::BadMoney,
-        ],
-    )?;
-    tell_each(
-        given,
-        &[
-            RosterFault::BadName,
-            RosterFault::Duplicate,
-            RosterFault::TooMany,
-            RosterFault::NoMemory,
-        ],
-    )
+/// Adds those of numbers, of rosters and of the words of a call.
+fn tell_numbers(given: &mut Vec<u8>) -> Result<(), Failed> {
+    tell(given, &[UnitFault::BadPrice, UnitFault::ZeroPrice])?;
+    tell(given, &[UnitFault::BadShares, UnitFault::BadMoney])?;
+    tell(given, &[RosterFault::BadName, RosterFault::Duplicate])?;
+    tell(given, &[RosterFault::TooMany, RosterFault::NoMemory])?;
+    tell(given, &[WordsFault::NoMemory])
 }
 
 /// Adds those of records, their lines and the texts of plans.
-fn tell_record_faults(given: &mut Vec<u8>) -> Result<(), Failed> {
-    tell_each(given, &[RecordFault::Failed, RecordFault::NoMemory])?;
-    tell_each(
-        given,
-        &[
-            LineFault::UnknownKind,
-            LineFault::FieldCount,
-            LineFault::UnknownParticipant,
-            LineFault::UnknownSymbol,
-            LineFault::BadState,
-            LineFault::BadPrice,
-            LineFault::BadShares,
-            LineFault::HalfSide,
-            LineFault::WrongFeed,
-            LineFault::BadDesk,
-            LineFault::BadLot,
-        ],
-    )?;
-    tell_each(
-        given,
-        &[
-            PlanTextFault::BadPlanText,
-            PlanTextFault::NoMemory,
-            PlanTextFault::WriteFault,
-        ],
-    )
+fn tell_records(given: &mut Vec<u8>) -> Result<(), Failed> {
+    tell(given, &[RecordFault::Failed, RecordFault::NoMemory])?;
+    tell(given, &[LineFault::UnknownKind, LineFault::FieldCount])?;
+    tell(given, &[LineFault::UnknownParticipant])?;
+    tell(given, &[LineFault::UnknownSymbol, LineFault::BadState])?;
+    tell(given, &[LineFault::BadPrice, LineFault::BadShares])?;
+    tell(given, &[LineFault::HalfSide, LineFault::WrongFeed])?;
+    tell(given, &[LineFault::BadDesk, LineFault::BadLot])?;
+    tell(given, &[PlanTextFault::BadPlanText])?;
+    tell(given, &[PlanTextFault::NoMemory, PlanTextFault::WriteFault])
 }
 
 /// Adds those of setups.
-fn tell_setup_faults(given: &mut Vec<u8>) -> Result<(), Failed> {
-    tell_each(
-        given,
-        &[
-            SetupFault::NotToml,
-            SetupFault::Missing,
-            SetupFault::UnknownKey,
-            SetupFault::BadName,
-            SetupFault::WrongType,
-            SetupFault::OutOfRange,
-            SetupFault::OverCap,
-            SetupFault::TooMany,
-            SetupFault::NoMemory,
-        ],
-    )
+fn tell_setups(given: &mut Vec<u8>) -> Result<(), Failed> {
+    tell(given, &[SetupFault::NotToml, SetupFault::Missing])?;
+    tell(given, &[SetupFault::UnknownKey, SetupFault::BadName])?;
+    tell(given, &[SetupFault::WrongType, SetupFault::OutOfRange])?;
+    tell(given, &[SetupFault::OverCap, SetupFault::TooMany])?;
+    tell(given, &[SetupFault::NoMemory])
 }
 
-/// Adds those of the machine.
-fn tell_machine_faults(given: &mut Vec<u8>) -> Result<(), Failed> {
-    tell(given, FlowFault::NoMemory)?;
-    tell_each(
-        given,
-        &[
-            StepFault::QueueFull,
-            StepFault::QueueEmpty,
-            StepFault::TapeFull,
-            StepFault::NoMemory,
-        ],
-    )
+/// Adds those of the machine and of its scripts.
+fn tell_machine(given: &mut Vec<u8>) -> Result<(), Failed> {
+    tell(given, &[FlowFault::NoMemory])?;
+    tell(given, &[StepFault::QueueFull, StepFault::QueueEmpty])?;
+    tell(given, &[StepFault::TapeFull, StepFault::NoMemory])?;
+    tell(given, &[ScriptFault::ReadFault, ScriptFault::WriteFault])?;
+    tell(given, &[ScriptFault::TooLong, ScriptFault::NoMemory])
 }
 
-/// Adds those of scripts, audits and reports.
-fn tell_engine_faults(given: &mut Vec<u8>) -> Result<(), Failed> {
-    tell_each(
-        given,
-        &[
-            ScriptFault::ReadFault,
-            ScriptFault::WriteFault,
-            ScriptFault::TooLong,
-            ScriptFault::NoMemory,
-        ],
-    )?;
-    tell_each(
-        given,
-        &[
-            ReportFault::Changes(ChangesFault::Record(RecordFault::Failed)),
-            ReportFault::Changes(ChangesFault::Line(LineFault::UnknownKind)),
-            ReportFault::Changes(ChangesFault::TapeFull),
-            ReportFault::Changes(ChangesFault::Record(RecordFault::NoMemory)),
-        ],
-    )?;
-    tell_each(
+/// Adds those of files of changes, reports and audits.
+fn tell_files(given: &mut Vec<u8>) -> Result<(), Failed> {
+    for fault in [
+        ChangesFault::Record(RecordFault::Failed),
+        ChangesFault::Line(LineFault::UnknownKind),
+        ChangesFault::TapeFull,
+        ChangesFault::Record(RecordFault::NoMemory),
+    ] {
+        tell(given, &[ReportFault::Changes(fault)])?;
+    }
+    tell(given, &[ReportFault::Board(BoardFault::NoMemory)])?;
+    tell(given, &[ReportFault::WriteFault, ReportFault::NoMemory])?;
+    tell(
         given,
         &[AuditFault::VersionBeyondTape, AuditFault::NoMemory],
-    )?;
-    tell_each(
-        given,
-        &[
-            ReportFault::Board(BoardFault::NoMemory),
-            ReportFault::WriteFault,
-            ReportFault::NoMemory,
-        ],
     )
 }
 
-/// Adds those of live runs.
-fn tell_live_faults(given: &mut Vec<u8>) -> Result<(), Failed> {
-    tell_each(
-        given,
-        &[
-            OrdersFault::Record(RecordFault::Failed),
-            OrdersFault::Line(LineFault::BadDesk),
-            OrdersFault::Record(RecordFault::NoMemory),
-        ],
-    )?;
+/// Adds those of live runs and their files.
+fn tell_live(given: &mut Vec<u8>) -> Result<(), Failed> {
+    for fault in [RecordFault::Failed, RecordFault::NoMemory] {
+        tell(given, &[OrdersFault::Record(fault)])?;
+        tell(given, &[FeedFault::Record(fault)])?;
+    }
+    tell(given, &[OrdersFault::Line(LineFault::BadDesk)])?;
+    tell(given, &[FeedFault::TooLong])?;
     let refused = LiveFault::Line {
         feed: Feed::B,
         number: 7,
         fault: LineFault::WrongFeed,
     };
-    tell_each(
-        given,
-        &[
-            refused,
-            LiveFault::Open,
-            LiveFault::Append,
-            LiveFault::Desk,
-            LiveFault::GateLimit,
-            LiveFault::NoMemory,
-        ],
-    )?;
-    tell_each(
-        given,
-        &[
-            FeedFault::Record(RecordFault::Failed),
-            FeedFault::TooLong,
-            FeedFault::Record(RecordFault::NoMemory),
-        ],
-    )?;
-    tell_each(given, &[TextFault::NoMemory, TextFault::WriteFault])
+    tell(given, &[refused, LiveFault::Open, LiveFault::Append])?;
+    tell(given, &[LiveFault::Desk, LiveFault::GateLimit])?;
+    tell(given, &[LiveFault::NoMemory])?;
+    tell(given, &[TextFault::NoMemory, TextFault::WriteFault])
 }

@@ -5,17 +5,36 @@ ghost use Rattle.nms_feed.specs.Lane.{AreSendersOf, Sending};
 ghost use Rattle.nms_feed.specs.declared.TheConstants.{LEAST_CAPACITY, MOST_CAPACITY};
 
 use crate::Failed;
-use crate::looks::quotation;
+use crate::lines::{around, or_failed, some_or_failed};
+use crate::offers::quotation;
 use nms_feed::{Delivered, LEAST_CAPACITY, MOST_CAPACITY, Sender, Taker, close, open_lane};
 use nms_quote::{Change, MOST_FEEDS};
+use std::io::Write;
 use std::sync::Wait;
 use std::sync::atomic::{AtomicBool, Ordering};
 use std::thread;
 use std::thread::Threads;
 
-/// Runs a lane of a capacity, with n changes from each of m threads. Reports how many each sent and how many
+/// Runs a lane, as the capacity, the senders and the changes of each in a line say. Adds how many changes each sent, and how many
 /// were taken.
-pub(crate) fn measure<R: AllocGlobal + Threads + Wait + Sync>(
+pub(crate) fn give_lane<R: AllocGlobal + Threads + Wait + Sync>(
+    rt: &R,
+    sizes: &str,
+    given: &mut Vec<u8>,
+) -> Result<(), Failed> {
+    let (capacity, rest) = around(sizes, " ")?;
+    let (senders, changes) = around(rest, " ")?;
+    let capacity = or_failed(capacity.parse::<usize>())?;
+    let senders = or_failed(senders.parse::<u8>())?;
+    let changes = or_failed(changes.parse::<u32>())?;
+    match measure(rt, capacity, senders, changes) {
+        Ok(came) => or_failed(write!(given, "{:?} {}", came.sent, came.taken)),
+        Err(fault) => Err(fault),
+    }
+}
+
+/// Runs a lane of a capacity, with n changes from each of m threads.
+fn measure<R: AllocGlobal + Threads + Wait + Sync>(
     rt: &R,
     capacity: usize,
     senders: u8,
@@ -27,9 +46,7 @@ pub(crate) fn measure<R: AllocGlobal + Threads + Wait + Sync>(
     if senders < 1 || MOST_FEEDS < senders {
         return Err(Failed);
     }
-    let Some(change) = quotation(0) else {
-        return Err(Failed);
-    };
+    let change = some_or_failed(quotation(0))?;
     match open_lane(rt.alloc(), capacity, senders) {
         Ok((ends, taker)) => run(rt, ends, taker, &change, changes),
         Err(_) => Err(Failed),
@@ -67,10 +84,7 @@ fn run<R: Threads + Wait + Sync>(
     let Some(back) = back else {
         return Err(Failed);
     };
-    match close(back, taker) {
-        Ok(delivered) => Ok(delivered),
-        Err(_) => Err(Failed),
-    }
+    or_failed(close(back, taker))
 }
 
 /// Sends a change n times from each sender, each in a thread of its own. `None` if out of memory.

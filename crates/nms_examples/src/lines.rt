@@ -1,8 +1,6 @@
-//! Texts that are read and lines that are added. What fails on the way is no more than failed.
+//! Texts that are read, and what is added to an answer. What fails on the way is no more than failed.
 
 use crate::Failed;
-use std::fmt::{Debug, Display};
-use std::io::Write;
 use std::str;
 
 /// What a call gave, whatever the fault is if it failed.
@@ -31,21 +29,7 @@ pub(crate) fn around<'a>(text: &'a str, mark: &str) -> Result<(&'a str, &'a str)
     some_or_failed(text.split_once(mark))
 }
 
-/// Adds a line.
-pub(crate) fn tell(given: &mut Vec<u8>, text: impl Display + Drop) -> Result<(), Failed> {
-    or_failed(writeln!(given, "{text}"))
-}
-
-/// Adds a line of two values.
-pub(crate) fn tell_two(
-    given: &mut Vec<u8>,
-    first: impl Display + Drop,
-    second: impl Display + Drop,
-) -> Result<(), Failed> {
-    or_failed(writeln!(given, "{first} {second}"))
-}
-
-/// Adds a line with all the parts of a value.
-pub(crate) fn tell_debug(given: &mut Vec<u8>, value: impl Debug + Drop) -> Result<(), Failed> {
-    or_failed(writeln!(given, "{value:?}"))
+/// What stands before the next answer of a run: nothing before the first one.
+pub(crate) fn gap_after(given: &[u8]) -> &'static str {
+    if given.is_empty() { "" } else { "; " }
 }

@@ -1,12 +1,14 @@
 //! Looks: desks look while a publisher publishes every 64 changes.
 use crate::Failed;
-use crate::lines::or_failed;
+use crate::lines::{around, or_failed};
+use crate::offers::quotation;
+use crate::setups::{PARTICIPANTS, SYMBOLS, wide};
 use nms_board::View;
-use nms_fees::{Setup, read_setup};
-use nms_quote::{Change, Part, QState, Side, SideQuote, Sym};
-use nms_units::{Price, Shares};
+use nms_fees::Setup;
+use nms_quote::{Side, Sym};
 use nms_versions::{Desk, Publisher, open_tape};
 use std::alloc::{AllocError, Global};
+use std::io::Write;
 use std::rt::Clock;
 use std::sync::Wait;
 use std::sync::atomic::{AtomicU64, Ordering};
@@ -14,11 +16,7 @@ use std::thread;
 use std::thread::Threads;
 use std::time::Duration;
 
-/// The board is that of 16 participants in 200 symbols. Its first 3,200 changes fill it.
-const PARTICIPANTS: u64 = 16;
-
-const SYMBOLS: u64 = 200;
-
+/// The first 3,200 changes fill the board of the wide setup.
 const BATCHES_TO_FILL: u32 = 50;
 
 const BATCH: u32 = 64;
@@ -32,42 +30,19 @@ struct Seat {
     _apart: [u64; 16],
 }
 
-/// Makes n looks by each desk, each in a thread of its own, at a row of each side. Reports how many rows were right.
-pub(crate) fn measure<R: AllocGlobal + Threads + Wait + Clock + Sync>(
+/// Looks from desks, as their number and that of the looks of each in a line say: each in a thread of its own, at a row of each side.
+/// Adds how many rows were right.
+pub(crate) fn give_looks<R: AllocGlobal + Threads + Wait + Clock + Sync>(
     rt: &R,
-    desks: u8,
-    looks: u32,
-) -> Result<u64, Failed> {
-    let alloc = rt.alloc();
-    let text = or_failed(setup_text(alloc, desks))?;
-    match read_setup(alloc, text.as_str()) {
-        Ok(setup) => run(rt, alloc, &setup, looks),
-        Err(_) => Err(Failed),
-    }
-}
-
-/// A setup of that board and n desks.
-pub(crate) fn setup_text(alloc: Global, desks: u8) -> Result<String, AllocError> {
-    let mut text = String::new(alloc);
-    match write_setup(&mut text, desks) {
-        Ok(()) => Ok(text),
-        Err(fault) => Err(fault),
-    }
-}
-
-/// Writes it.
-fn write_setup(text: &mut String, desks: u8) -> Result<(), AllocError> {
-    write!(text, "tape_limit = 10000000\nqueue = 2\ndesks = {desks}\n")?;
-    for place in 0..PARTICIPANTS {
-        write!(
-            text,
-            "[[participant]]\nname = \"P{place}\"\nfeed = \"A\"\nfee = 0\nrate = 0\n"
-        )?;
-    }
-    for place in 0..SYMBOLS {
-        write!(text, "[[symbol]]\nname = \"S{place}\"\nlot = 100\n")?;
-    }
-    Ok(())
+    sizes: &str,
+    given: &mut Vec<u8>,
+) -> Result<(), Failed> {
+    let (desks, looks) = around(sizes, " ")?;
+    let desks = or_failed(desks.parse::<u8>())?;
+    let looks = or_failed(looks.parse::<u32>())?;
+    let setup = wide(rt.alloc(), 10_000_000, 2, desks)?;
+    let rows = run(rt, rt.alloc(), &setup, looks)?;
+    or_failed(write!(given, "{rows}"))
 }
 
 /// Opens, fills the board, and looks beside the publisher.
@@ -212,17 +187,4 @@ fn publish_batch<R: Wait>(rt: &R, publisher: &mut Publisher, number: &mut u64) -
     }
     publisher.publish(rt);
     true
-}
-
-/// The change of that number: each participant quotes each symbol in turn, with other shares each time round.
-pub(crate) fn quotation(number: u64) -> Option<Change> {
-    let price = Price::new(100_000)?;
-    let shares = Shares::new(100 * (1 + number / (PARTICIPANTS * SYMBOLS) % 9) as u32)?;
-    Some(Change::Quote {
-        part: Part::new((number % PARTICIPANTS) as u8)?,
-        sym: Sym::new((number / PARTICIPANTS % SYMBOLS) as u16)?,
-        state: QState::Automated,
-        bid: SideQuote::new(price, shares),
-        offer: SideQuote::new(price, shares),
-    })
 }

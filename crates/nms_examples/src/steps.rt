@@ -1,32 +1,31 @@
 //! The machine over steps without text.
 
 use crate::Failed;
-use crate::lines::{or_failed, tell, tell_two, text_of};
-use nms_board::View;
-use nms_fees::Setup;
+use crate::lines::{around, gap_after, or_failed, some_or_failed};
+use crate::offers::offer_of;
+use crate::setups::wide;
 use nms_flow::{Flow, Reply, Step, StepFault};
-use nms_quote::{Change, Feed, Part, QState, Side, SideQuote, Sym};
-use nms_units::{Price, Shares};
+use nms_quote::{Feed, QState, Side, SideQuote, Sym};
 use std::alloc::Global;
 use std::io::Write;
 
-/// Adds the answer to each step, one a line, of a machine that starts empty.
-pub(crate) fn give_steps(
-    alloc: Global,
-    setup: &Setup,
-    input: &[u8],
-    given: &mut Vec<u8>,
-) -> Result<(), Failed> {
-    let text = text_of(input)?;
-    match Flow::new(alloc, setup) {
-        Ok(mut flow) => give_each(&mut flow, text, given),
+/// Adds each step of a line with its answer, of a machine that starts empty. Before the steps stand the limits of its tape and of its
+/// queue.
+pub(crate) fn give_steps(alloc: Global, line: &str, given: &mut Vec<u8>) -> Result<(), Failed> {
+    let (tape, rest) = around(line, " ")?;
+    let (queue, steps) = around(rest, " ")?;
+    let tape = or_failed(tape.parse::<u32>())?;
+    let setup = wide(alloc, tape, or_failed(queue.parse::<u16>())?, 1)?;
+    match Flow::new(alloc, &setup) {
+        Ok(mut flow) => give_each(&mut flow, steps, given),
         Err(_) => Err(Failed),
     }
 }
 
-/// Adds the answer to each step.
-fn give_each(flow: &mut Flow, text: &str, given: &mut Vec<u8>) -> Result<(), Failed> {
-    for word in text.lines() {
+/// Adds each step with its answer.
+fn give_each(flow: &mut Flow, steps: &str, given: &mut Vec<u8>) -> Result<(), Failed> {
+    for word in steps.split(' ') {
+        or_failed(write!(given, "{}{word} ", gap_after(given)))?;
         give_step(flow, word, given)?;
     }
     Ok(())
@@ -42,35 +41,26 @@ fn step_named(word: &str) -> Option<Step> {
             desk: 0,
             sym: Sym::new(0)?,
         }),
-        "N" => Some(Step::Send(Feed::A, offer_of(0, 100)?)),
-        "P" => Some(Step::Send(Feed::A, offer_of(1, 100)?)),
-        _ => Some(Step::Send(Feed::B, offer_of(2, 100)?)),
+        "N" => sending(Feed::A, 0),
+        "P" => sending(Feed::A, 1),
+        _ => sending(Feed::B, 2),
     }
 }
 
-/// An offer of a number of shares of the first symbol, at 10.00, by the participant at a place.
-pub(crate) fn offer_of(place: u8, shares: u32) -> Option<Change> {
-    let offer = SideQuote::new(Price::new(100_000)?, Shares::new(shares)?);
-    Some(Change::Quote {
-        part: Part::new(place)?,
-        sym: Sym::new(0)?,
-        state: QState::Automated,
-        bid: None,
-        offer,
-    })
+/// The step that sends the offer of the participant at a place.
+fn sending(feed: Feed, place: u8) -> Option<Step> {
+    let offer = offer_of(place, QState::Automated, 100_000, 100)?;
+    Some(Step::Send(feed, offer))
 }
 
-/// Makes the step that a word names, or takes all, and adds the answer. A step that names an unknown participant or symbol
-/// fails.
+/// Makes the step that a word names, or takes all, and adds the answer.
 fn give_step(flow: &mut Flow, word: &str, given: &mut Vec<u8>) -> Result<(), Failed> {
     if word == "all" {
-        return tell(given, flow.take_all().code());
+        return or_failed(write!(given, "{}", flow.take_all().code()));
     }
     // The prover has to see the types of a step before the step moves, so the code mentions them.
     let _seen: Option<SideQuote> = None;
-    let Some(step) = step_named(word) else {
-        return Err(Failed);
-    };
+    let step = some_or_failed(step_named(word))?;
     if let Step::Send(_, change) = &step
         && !flow.holds(change)
     {
@@ -81,18 +71,17 @@ fn give_step(flow: &mut Flow, word: &str, given: &mut Vec<u8>) -> Result<(), Fai
 
 /// Adds an answer: of a view its version and its number of offers, of a refusal its code.
 fn tell_reply(answer: Result<Reply, StepFault>, given: &mut Vec<u8>) -> Result<(), Failed> {
-    match answer {
-        Ok(Reply::Sent) => tell(given, "sent"),
-        Ok(Reply::Taken { version }) => tell_two(given, "taken", version),
-        Ok(Reply::Published { version }) => tell_two(given, "published", version),
-        Ok(Reply::Told { desk, version }) => or_failed(writeln!(given, "told {desk} {version}")),
-        Ok(Reply::Seen(view)) => tell_view(&view, given),
-        Err(fault) => tell(given, fault.code()),
-    }
-}
-
-/// Adds the version of a view and its number of offers.
-fn tell_view(view: &View, given: &mut Vec<u8>) -> Result<(), Failed> {
-    let (version, count) = (view.version(), view.count(Side::Offer));
-    or_failed(writeln!(given, "seen {version} {count}"))
+    or_failed(match answer {
+        Ok(Reply::Sent) => write!(given, "sent"),
+        Ok(Reply::Taken { version }) => write!(given, "taken {version}"),
+        Ok(Reply::Published { version }) => write!(given, "published {version}"),
+        Ok(Reply::Told { desk, version }) => write!(given, "told {desk} {version}"),
+        Ok(Reply::Seen(view)) => write!(
+            given,
+            "seen {} {}",
+            view.version(),
+            view.count(Side::Offer)
+        ),
+        Err(fault) => write!(given, "{}", fault.code()),
+    })
 }

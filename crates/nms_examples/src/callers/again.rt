@@ -1,29 +1,14 @@
 //! Appending when memory may run out: a change that found none is appended once more, and nothing was lost between.
-ghost use Rattle.std.specs.Prelude.{◌≡◌, true};
-ghost use Rattle.nms_quote.specs.Roster.{holds};
+ghost use Rattle.std.specs.Prelude.{◌≡◌};
 
 use crate::Failed;
-use crate::steps::offer_of;
+use crate::offers::offer_of;
 use nms_fees::Setup;
-use nms_quote::{Change, Side, Sym};
+use nms_quote::{Change, QState, Side, Sym};
 use nms_versions::{AppendFault, Desk, Publisher, open_tape};
 use std::alloc::Global;
 use std::sync::Wait;
 use std::thread;
-
-/// A setup of one participant and one symbol.
-pub(crate) const SMALL: &str = r#"tape_limit = 1000
-queue = 2
-desks = 1
-[[participant]]
-name = "N"
-feed = "A"
-fee = 0
-rate = 0
-[[symbol]]
-name = "ABC"
-lot = 100
-"#;
 
 /// The result.
 #[derive(Drop)]
@@ -78,31 +63,28 @@ fn append_each<R: Wait>(rt: &R, publisher: &mut Publisher, count: u32) -> bool {
 
 /// The change of that number: the participant offers a round lot more each time.
 fn offer_numbered(number: u32) -> Option<Change> {
-    offer_of(0, (number % 1000 + 1) * 100)
+    let shares = (number % 1000 + 1) * 100;
+    offer_of(0, QState::Automated, 100_000, shares)
 }
 
-/// Appends a change, and reports whether it is on the tape now.
+/// Appends the change of that number, and reports whether it is on the tape now. If out of memory, the tape and what is published have to
+/// be as they were, and the same change is appended once more.
 fn append_again(publisher: &mut Publisher, number: u32) -> bool {
-    match offer_numbered(number) {
-        Some(change) => publisher.holds(&change) && append_held(publisher, &change),
-        None => false,
+    let Some(change) = offer_numbered(number) else {
+        return false;
+    };
+    if !publisher.holds(&change) {
+        return false;
     }
-}
-
-/// Appends a change of the roster. If out of memory, the tape and what is published have to be as they were, and the same
-/// change is appended once more.
-fn append_held(publisher: &mut Publisher, change: &Change) -> bool
-    requires { holds publisher.old.sizes change.now ≡ true }
-{
     let before = length_and_version(publisher);
-    match publisher.append(*change) {
+    match publisher.append(change) {
         Ok(()) => true,
         Err(AppendFault::TapeFull) => false,
         Err(AppendFault::NoMemory) => {
             let left = length_and_version(publisher);
             // Another thread may give memory back.
             thread::yield_now();
-            left == before && publisher.append(*change).is_ok()
+            left == before && publisher.append(change).is_ok()
         }
     }
 }

@@ -1,10 +1,23 @@
-//! The limits of numbers, by values from outside, and the laws of their texts.
-use super::same;
-use nms_units::{Lot, Money, Price, Shares};
+//! The limits of numbers, by values from outside, the faults of their texts, and the laws of these.
+use super::{same, there};
+use nms_fees::Setup;
+use nms_quote::{OrderSide, Part};
+use nms_units::{Lot, Money, Price, Shares, UnitFault};
 use std::test::Fail;
 
+pub(super) fn try_all(setup: &Setup) -> Result<(), Fail> {
+    numbers_have_their_limits()?;
+    whole_lots_are_displayed()?;
+    each_wrong_text_has_its_fault()?;
+    who_is_no_participant_has_no_fee(setup)?;
+    // What is printed reads back as itself: the two laws are calls that do nothing.
+    Price::reads_what_it_prints();
+    Money::reads_what_it_prints();
+    Ok(())
+}
+
 /// The least and the most can be made, and nothing beyond them.
-pub(super) fn numbers_have_their_limits() -> Result<(), Fail> {
+fn numbers_have_their_limits() -> Result<(), Fail> {
     for (number, is_price) in [
         (0, false),
         (1, true),
@@ -23,15 +36,45 @@ fn displayed(lot: u16, shares: u32) -> Option<u32> {
     Some(Lot::new(lot)?.displayed(Shares::new(shares)?))
 }
 
-pub(super) fn whole_lots_are_displayed() -> Result<(), Fail> {
+fn whole_lots_are_displayed() -> Result<(), Fail> {
     for (lot, shares, size) in [(100, 250, 200), (100, 99, 0), (1, 7, 7), (1000, 1999, 1000)] {
         same(displayed(lot, shares), Some(size))?;
     }
     Ok(())
 }
 
-/// What is printed reads back as itself: the two laws are calls that do nothing.
-pub(super) fn the_laws_of_texts_are_called() {
-    Price::reads_what_it_prints();
-    Money::reads_what_it_prints();
+/// A record or a plan with such a text has a code of its own, which does not tell them apart.
+fn each_wrong_text_has_its_fault() -> Result<(), Fail> {
+    for text in [b"0".as_slice(), b"0000000.0000"] {
+        same(Price::parse(text), Err(UnitFault::ZeroPrice))?;
+    }
+    for text in [
+        b"".as_slice(),
+        b"1.",
+        b".5",
+        b"1.00000",
+        b"10000000",
+        b"1.2.3",
+        b"-1",
+        b"1 ",
+    ] {
+        same(Price::parse(text), Err(UnitFault::BadPrice))?;
+    }
+    for text in [b"".as_slice(), b"1000000000", b"+1", b"1.0"] {
+        same(Shares::parse(text), Err(UnitFault::BadShares))?;
+    }
+    for text in [b"".as_slice(), b"1.7", b"+1.000000000", b"1.-00000000"] {
+        same(Money::parse(text), Err(UnitFault::BadMoney))?;
+    }
+    Ok(())
+}
+
+fn who_is_no_participant_has_no_fee(setup: &Setup) -> Result<(), Fail> {
+    let price = there(Price::new(100_000))?;
+    for place in [4, 31] {
+        let part = there(Part::new(place))?;
+        let cost = setup.fees().unit_cost(part, OrderSide::Buy, price);
+        same(cost, Money::new(10_000_000_000))?;
+    }
+    Ok(())
 }

@@ -6,18 +6,32 @@ use nms_units::Lot;
 use std::alloc::Global;
 use std::test::Fail;
 
-fn participant_added(roster: &mut Roster, name: &str) -> Result<u8, RosterFault> {
-    Ok(roster.add_participant(name.as_bytes(), Feed::A)?.get())
+pub(super) fn try_all(alloc: Global) -> Result<(), Fail> {
+    a_roster_holds_what_is_of_it_alone(alloc, &mut Roster::new(alloc)?)?;
+    a_roster_takes_32_participants_and_tells_each_refusal(alloc, &mut Roster::new(alloc)?)?;
+    a_roster_takes_1000_symbols_and_tells_each_refusal(alloc, &mut Roster::new(alloc)?)
 }
 
-/// Adds a participant named by the number of its place, which is the place that it gets.
-fn add_participant_of(alloc: Global, roster: &mut Roster, place: u8) -> Result<(), Fail> {
-    let name = format!(in alloc; "{place}")?;
-    same(participant_added(roster, name.as_str()), Ok(place))
+fn participant_added(roster: &mut Roster, name: &str) -> Result<u16, RosterFault> {
+    let part = roster.add_participant(name.as_bytes(), Feed::A)?;
+    Ok(u16::from(part.get()))
 }
 
-/// Adds N and 31 more, and compares the answers before and after. A board of this roster is empty.
-fn try_participants(alloc: Global, roster: &mut Roster) -> Result<(), Fail> {
+fn symbol_added(roster: &mut Roster, name: &str) -> Result<u16, RosterFault> {
+    let sym = roster.add_symbol(name.as_bytes(), Lot::new(100).unwrap())?;
+    Ok(sym.get())
+}
+
+/// The name that is the number of a place.
+fn named(alloc: Global, place: u16) -> Result<String, Fail> {
+    Ok(format!(in alloc; "{place}")?)
+}
+
+/// Adds N and 31 more, each named by its place, and compares the answers before and after. A board of this roster is empty.
+fn a_roster_takes_32_participants_and_tells_each_refusal(
+    alloc: Global,
+    roster: &mut Roster,
+) -> Result<(), Fail> {
     for (name, told) in [
         ("ABCDE", Err(RosterFault::BadName)),
         ("N", Ok(0)),
@@ -25,8 +39,9 @@ fn try_participants(alloc: Global, roster: &mut Roster) -> Result<(), Fail> {
     ] {
         same(participant_added(roster, name), told)?;
     }
-    for place in 1..32u8 {
-        add_participant_of(alloc, roster, place)?;
+    for place in 1..32u16 {
+        let name = named(alloc, place)?;
+        same(participant_added(roster, name.as_str()), Ok(place))?;
     }
     for (name, fault) in [
         ("32", RosterFault::TooMany),
@@ -40,43 +55,23 @@ fn try_participants(alloc: Global, roster: &mut Roster) -> Result<(), Fail> {
     same(Boards::new(alloc, roster)?.applied(), 0)
 }
 
-pub(super) fn a_roster_takes_32_participants_and_tells_each_refusal<T: AllocGlobal>(
-    rt: &T,
+/// Adds symbols, each named by its place.
+fn a_roster_takes_1000_symbols_and_tells_each_refusal(
+    alloc: Global,
+    roster: &mut Roster,
 ) -> Result<(), Fail> {
-    try_participants(rt.alloc(), &mut Roster::new(rt.alloc())?)
-}
-
-fn symbol_added(roster: &mut Roster, name: &str) -> Option<Result<u16, RosterFault>> {
-    match roster.add_symbol(name.as_bytes(), Lot::new(100)?) {
-        Ok(sym) => Some(Ok(sym.get())),
-        Err(fault) => Some(Err(fault)),
-    }
-}
-
-/// Adds a symbol named by the number of its place, which is the place that it gets.
-fn add_symbol_of(alloc: Global, roster: &mut Roster, place: u16) -> Result<(), Fail> {
-    let name = format!(in alloc; "{place}")?;
-    same(symbol_added(roster, name.as_str()), Some(Ok(place)))
-}
-
-fn try_symbols(alloc: Global, roster: &mut Roster) -> Result<(), Fail> {
     for place in 0..1000u16 {
-        add_symbol_of(alloc, roster, place)?;
+        let name = named(alloc, place)?;
+        same(symbol_added(roster, name.as_str()), Ok(place))?;
     }
     for (name, fault) in [
         ("AAPL", RosterFault::TooMany),
         ("999", RosterFault::Duplicate),
         ("aapl", RosterFault::BadName),
     ] {
-        same(symbol_added(roster, name), Some(Err(fault)))?;
+        same(symbol_added(roster, name), Err(fault))?;
     }
     Ok(())
-}
-
-pub(super) fn a_roster_takes_1000_symbols_and_tells_each_refusal<T: AllocGlobal>(
-    rt: &T,
-) -> Result<(), Fail> {
-    try_symbols(rt.alloc(), &mut Roster::new(rt.alloc())?)
 }
 
 /// A state of the participant at a place in the symbol at a place.
@@ -99,13 +94,8 @@ fn try_holding(roster: &Roster, boards: &Boards) -> Result<(), Fail> {
     Ok(())
 }
 
-/// Adds one participant and one symbol, and compares what is held.
-fn try_one_of_each(alloc: Global, roster: &mut Roster) -> Result<(), Fail> {
+fn a_roster_holds_what_is_of_it_alone(alloc: Global, roster: &mut Roster) -> Result<(), Fail> {
     same(participant_added(roster, "N"), Ok(0))?;
-    same(symbol_added(roster, "ABC"), Some(Ok(0)))?;
+    same(symbol_added(roster, "ABC"), Ok(0))?;
     try_holding(roster, &Boards::new(alloc, roster)?)
-}
-
-pub(super) fn a_roster_holds_what_is_of_it_alone<T: AllocGlobal>(rt: &T) -> Result<(), Fail> {
-    try_one_of_each(rt.alloc(), &mut Roster::new(rt.alloc())?)
 }

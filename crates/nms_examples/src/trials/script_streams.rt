@@ -1,23 +1,37 @@
-//! Scripts on streams that fail or count.
+//! Scripts and their records on streams that fail or count.
 use super::same;
 use super::streams::{Pipe, Source, checked_sum};
 use nms_engine::{ScriptFault, run_script};
 use nms_fees::Setup;
+use nms_lines::{
+    ByteRecord, Reader, RecordFault, open_records, read_next, the_least_fault_is_read,
+};
 use std::alloc::Global;
 use std::cell::Cell;
 use std::io;
 use std::io::{ErrorKind, Read};
 use std::test::Fail;
 
+pub(super) fn try_all(alloc: Global, setup: &Setup) -> Result<(), Fail> {
+    each_answer_is_one_write_and_out_before_the_next_read(alloc, setup)?;
+    a_failed_read_leaves_the_answers_so_far(alloc, setup)?;
+    a_failed_write_or_flush_ends_the_script(alloc, setup)?;
+    no_record_follows_a_failed_read(alloc)?;
+    // A law is a call that does nothing.
+    the_least_fault_is_read();
+    Ok(())
+}
+
 /// Records, each with how many bytes its answer has.
-const RECORDS: [(&str, usize); 8] = [
+const RECORDS: [(&str, usize); 9] = [
     ("Q,N,ABC,A,9.99,100,10.00,300\n", 0),
     ("F\n", "PUB,1\n".len()),
     ("N,0,PNY\n", "BEST,0,PNY,1,EMPTY,,,,,,,,\n".len()),
     ("K\n", "ERR,4,L1\n".len()),
     ("Q,P,ABC,A,,,10.00,400\n", 0),
+    ("T\n", "TAKEN,2\n".len()),
     ("Q,P,ABC,A,,,10.00,500\n", 0),
-    ("N,2,ABC\n", "ERR,7,L10\n".len()),
+    ("N,2,ABC\n", "ERR,8,L10\n".len()),
     ("L,1\n", "TOLD,1,1\n".len()),
 ];
 
@@ -51,9 +65,11 @@ impl<'a> Read for Asker<'a> {
     }
 }
 
-/// How many records a reader reads if it asks for their answers, how many of 9 writes and flushes are left, and how many bytes
-/// are out.
-fn asked(alloc: Global, setup: &Setup) -> Result<(u64, usize, usize, usize), Fail> {
+/// Nine records, six of them answered, of nine writes and flushes.
+fn each_answer_is_one_write_and_out_before_the_next_read(
+    alloc: Global,
+    setup: &Setup,
+) -> Result<(), Fail> {
     let out = &Cell::new(0);
     let asker = Asker {
         rest: b"",
@@ -63,15 +79,9 @@ fn asked(alloc: Global, setup: &Setup) -> Result<(u64, usize, usize, usize), Fai
     };
     let mut pipe = Pipe::taking(9, 9, out);
     let counts = run_script(alloc, setup, asker, &mut pipe)?;
-    Ok((counts.records, pipe.writes, pipe.flushes, out.get()))
-}
-
-pub(super) fn each_answer_is_one_write_and_out_before_the_next_read<T: AllocGlobal>(
-    rt: &T,
-    setup: &Setup,
-) -> Result<(), Fail> {
-    // Five of the records are answered.
-    same(asked(rt.alloc(), setup)?, (8, 4, 4, 61))
+    same((counts.records, counts.refused), (9, 2))?;
+    same((counts.tape, counts.published), (2, 1))?;
+    same((pipe.writes, pipe.flushes, out.get()), (3, 3, 69))
 }
 
 /// What ends a script if n writes and flushes succeed, and how many bytes are written by then.
@@ -88,35 +98,25 @@ fn ended(
     (came_to.err(), pipe.bytes)
 }
 
-pub(super) fn a_failed_read_leaves_the_answers_so_far<T: AllocGlobal>(
-    rt: &T,
-    setup: &Setup,
-) -> Result<(), Fail> {
-    let after = b"\nF\n";
+fn a_failed_read_leaves_the_answers_so_far(alloc: Global, setup: &Setup) -> Result<(), Fail> {
     // The last record of the third script does not end.
     for (text, answers) in [
         (b"".as_slice(), 0),
         (b"Q,N,ABC,A,,,10.00,100\nF\nP\n", 12),
         (b"Q,N,ABC,A,,,10.00,100\nF\nP\nN,0,ABC", 12),
     ] {
-        let fails = true;
         let script = Source {
             text,
-            times: 1,
-            fails,
-            after,
-            rest: b"",
+            fails: true,
+            after: b"\nF\n",
         };
-        let ended = ended(rt.alloc(), setup, script, 9, 9);
+        let ended = ended(alloc, setup, script, 9, 9);
         same(ended, (Some(ScriptFault::ReadFault), answers))?;
     }
     Ok(())
 }
 
-pub(super) fn a_failed_write_or_flush_ends_the_script<T: AllocGlobal>(
-    rt: &T,
-    setup: &Setup,
-) -> Result<(), Fail> {
+fn a_failed_write_or_flush_ends_the_script(alloc: Global, setup: &Setup) -> Result<(), Fail> {
     let broken = Some(ScriptFault::WriteFault);
     // The first record has no answer, so nothing is written. The answer to each other one has 6 bytes.
     for (writes, flushes, fault, written) in [
@@ -130,45 +130,29 @@ pub(super) fn a_failed_write_or_flush_ends_the_script<T: AllocGlobal>(
     ] {
         let script = Source {
             text: b"Q,N,ABC,A,,,10.00,100\nF\nP\nF\n",
-            times: 1,
             fails: false,
             after: b"",
-            rest: b"",
         };
-        let ended = ended(rt.alloc(), setup, script, writes, flushes);
+        let ended = ended(alloc, setup, script, writes, flushes);
         same(ended, (fault, written))?;
     }
     Ok(())
 }
 
-/// The worked script: three offers, their publishing, and then an order.
-fn worked(fails: bool) -> Source<'static> {
-    Source {
-        text: b"Q,N,ABC,A,,,10.00,300\nQ,P,ABC,A,,,10.00,500\nQ,Y,ABC,A,,,10.01,200\nF\n",
-        times: 1,
-        fails,
-        after: b"O,0,B,ABC,600,10.01\n",
-        rest: b"",
+fn no_record_follows_a_failed_read(alloc: Global) -> Result<(), Fail> {
+    let source = Source {
+        text: b"T\nF",
+        fails: true,
+        after: b"\nP\n",
+    };
+    let (mut reader, mut row) = (open_records(alloc, source), ByteRecord::new(alloc));
+    try_reads(&mut reader, &mut row)
+}
+
+/// A read succeeds, the next one fails, and then there is none.
+fn try_reads(reader: &mut Reader<Source<'_>>, row: &mut ByteRecord) -> Result<(), Fail> {
+    for found in [Ok(true), Err(RecordFault::Failed), Ok(false)] {
+        same(read_next(reader, row), found)?;
     }
-}
-
-/// The read after its fourth record fails, and the order is never answered.
-pub(super) fn the_worked_script_ends_after_its_publishing<T: AllocGlobal>(
-    rt: &T,
-    setup: &Setup,
-) -> Result<(), Fail> {
-    let mut text = Vec::new(rt.alloc());
-    let came_to = run_script(rt.alloc(), setup, worked(true), &mut text);
-    same(
-        (came_to.err(), text.as_slice()),
-        (Some(ScriptFault::ReadFault), b"PUB,3\n".as_slice()),
-    )
-}
-
-pub(super) fn the_worked_script_writes_nothing_if_its_first_write_fails<T: AllocGlobal>(
-    rt: &T,
-    setup: &Setup,
-) -> Result<(), Fail> {
-    let told = ended(rt.alloc(), setup, worked(false), 0, 9);
-    same(told, (Some(ScriptFault::WriteFault), 0))
+    Ok(())
 }

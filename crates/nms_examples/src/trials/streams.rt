@@ -1,30 +1,27 @@
+//! Streams that fail or count.
 use std::cell::Cell;
 use std::io;
 use std::io::{ErrorKind, Read, Write};
 
-/// Gives a text n times, then fails once if asked to, and then gives what follows.
+/// Gives a text, then fails once if asked to, and then gives what follows.
 #[derive(Drop)]
 pub(super) struct Source<'a> {
     pub(super) text: &'a [u8],
-    pub(super) times: u32,
     pub(super) fails: bool,
     pub(super) after: &'a [u8],
-    pub(super) rest: &'a [u8],
 }
 
 impl<'a> Read for Source<'a> {
     fn read(&mut self, buf: &mut [u8]) -> io::Result<usize> {
-        if self.rest.is_empty() && self.times > 0 {
-            self.rest = self.text;
-            self.times -= 1;
-        } else if self.rest.is_empty() && self.fails {
+        if self.text.is_empty() && self.fails {
             self.fails = false;
             return Err(io::Error::from(ErrorKind::BrokenPipe));
-        } else if self.rest.is_empty() {
-            self.rest = self.after;
+        }
+        if self.text.is_empty() {
+            self.text = self.after;
             self.after = b"";
         }
-        self.rest.read(buf)
+        self.text.read(buf)
     }
 }
 
@@ -64,10 +61,8 @@ impl<'a> Write for Pipe<'a> {
 
 /// One less; a failure if there is none.
 fn one_less(left: usize) -> io::Result<usize> {
-    match left {
-        0 => Err(io::Error::from(ErrorKind::BrokenPipe)),
-        left => Ok(left - 1),
-    }
+    left.checked_sub(1)
+        .ok_or(io::Error::from(ErrorKind::BrokenPipe))
 }
 
 /// The sum of two counts of bytes; a failure if no count is as great.
