@@ -473,12 +473,15 @@ def check_edits():
 
 
 def has_function(crate, path):
-    """Whether a crate has a function in that module."""
+    """Whether a crate has a function in that module. A method may be in any file that has an `impl` of its type."""
     *modules, name = path.split("::")
+    owner = ""
     while modules and not modules[-1][:1].islower():
-        modules.pop()
-    file = f"crates/{crate}/src/{'/'.join(modules)}.rt"
-    return file in FILES and bool(re.search(rf"\bfn {name}\b", read(file)))
+        owner = modules.pop()
+    folder = f"crates/{crate}/src/"
+    file = f"{folder}{'/'.join(modules)}.rt"
+    inside = [file] + [it for it in FILES if owner and it.startswith(folder) and re.search(rf"^impl\b.*\b{owner}\b", read(it), re.M)]
+    return file in FILES and any(re.search(rf"\bfn {name}\b", read(it)) for it in inside)
 
 
 def main():
