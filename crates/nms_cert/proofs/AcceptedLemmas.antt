@@ -78,7 +78,7 @@ order_in side (cut ∷ later) pairs =
 
 -- ---- what a cut says
 
-kind_holds : (rows : List Usable) (most : ℕ) (cost cutoff : ℤ) (kind : CutKind) → is_wrong_kind rows most cutoff kind ≡ false
+pub kind_holds : (rows : List Usable) (most : ℕ) (cost cutoff : ℤ) (kind : CutKind) → is_wrong_kind rows most cutoff kind ≡ false
     → is_out_of_range kind ≡ false → fails_bound rows most cost cutoff kind ≡ false → KindHolds rows most cost cutoff kind
 kind_holds rows most cost cutoff TooMuch right range holds = leb-false (swept cutoff rows) most right
 kind_holds rows most cost cutoff TooLittle right range holds = leb-false most (swept cutoff rows + pool cutoff rows) right
@@ -132,7 +132,7 @@ none-map f (Some x) e = absurd (some-none x e)
 none-map f None e = refl
 
 -- what the cuts must be
-record AreRight (side : OrderSide) (rows : List Usable) (most : ℕ) (cost : ℤ) (cuts : List Cut) : Type 0 where
+pub record AreRight (side : OrderSide) (rows : List Usable) (most : ℕ) (cost : ℤ) (cuts : List Cut) : Type 0 where
   pub each_price : All (λ row. Any (λ cut. cut.price ≡ row.price) cuts) rows
   pub no_other : All (λ cut. Any (λ row. row.price ≡ cut.price) rows) cuts
   pub best_first : AllPairs (λ cut later. is_better side cut.price later.price ≡ true) cuts
@@ -223,17 +223,24 @@ accepted_of_none seen asked fees plan cuts faultless none =
       holds = right.holds;
     }
 
-pub none_of_accepted : (seen : Seen) (asked : Terms) (fees : Charges) (plan : Plan) (cuts : List Cut)
-    → (IsFaultless seen asked fees plan → breach_of seen asked fees plan ≡ None) → IsAccepted seen asked fees plan cuts
+pub none_of_right : (seen : Seen) (asked : Terms) (fees : Charges) (plan : Plan) (cuts : List Cut)
+    → breach_of seen asked fees plan ≡ None → plan.filled ≡ fillable (usable seen asked fees) asked.shares
+    → AreRight asked.side (usable seen asked fees) (fillable (usable seen asked fees) asked.shares) plan.cost cuts
     → doubt_of seen asked fees plan cuts ≡ None
-none_of_accepted seen asked fees plan cuts faultless is =
+none_of_right seen asked fees plan cuts none filled right =
     let rows : List Usable = usable seen asked fees in
     let full = not (plan.filled == fillable rows asked.shares) in
     let rest = cuts_doubt asked.side rows (fillable rows asked.shares) plan.cost cuts in
     none-or (option_map (λ breach. doubt.Breach breach) (breach_of seen asked fees plan)) (when full doubt.NotMost or_else rest)
-    (none-map (λ breach. doubt.Breach breach) (breach_of seen asked fees plan) (faultless is.faultless))
+    (none-map (λ breach. doubt.Breach breach) (breach_of seen asked fees plan) none)
     (none-or (when full doubt.NotMost) rest
     (none-when full doubt.NotMost (not_from_true (plan.filled == fillable rows asked.shares)
-    (eq-eqb plan.filled (fillable rows asked.shares) is.full)))
-    (right_cuts asked.side rows (fillable rows asked.shares) plan.cost cuts
-    (record { each_price = is.each_price; no_other = is.no_other; best_first = is.best_first; holds = is.holds })))
+    (eq-eqb plan.filled (fillable rows asked.shares) filled)))
+    (right_cuts asked.side rows (fillable rows asked.shares) plan.cost cuts right))
+
+pub none_of_accepted : (seen : Seen) (asked : Terms) (fees : Charges) (plan : Plan) (cuts : List Cut)
+    → (IsFaultless seen asked fees plan → breach_of seen asked fees plan ≡ None) → IsAccepted seen asked fees plan cuts
+    → doubt_of seen asked fees plan cuts ≡ None
+none_of_accepted seen asked fees plan cuts faultless is =
+    none_of_right seen asked fees plan cuts (faultless is.faultless) is.full
+    (record { each_price = is.each_price; no_other = is.no_other; best_first = is.best_first; holds = is.holds })

@@ -1,9 +1,10 @@
 -- What tests of a list's elements say of each of them.
-use Rattle.std.proofs.Common.{ℕ, ◌≡◌, ◌<◌, ◌≤◌, Bool, true, false, List, [], ◌∷◌, length, get_or, All, Some, None, ◌⊎◌, inl, inr, ap, sym}
-use Rattle.std.proofs.Common.{◌∙◌, arith}
+use Rattle.std.proofs.Common.{ℕ, ◌≡◌, ◌<◌, ◌≤◌, ◌+◌, Bool, true, false, List, [], ◌∷◌, length, get_or, All, Some, None, ◌⊎◌, inl, inr, ap, sym}
+use Rattle.std.proofs.Common.{◌∙◌, subst, arith}
 use Rattle.std.specs.List.{list_any, position, position_or_len}
 use Rattle.std.specs.Option.{is_some}
 use Rattle.std.proofs.lemmas.Bool.{cases_lt, false≢true, both_ways, cases_Bool, cond-true, cond-false, lt-ltb, le-ltb}
+use Rattle.std.proofs.lemmas.List.{get_or_default}
 use Rattle.std.proofs.lemmas.List.Folds.{list_any_at}
 use Rattle.std.proofs.lemmas.List.Sums.{position_or_len_is, fails_before_first}
 
@@ -47,3 +48,14 @@ none_position-step p xs k d none below (inr after) = fails_before_first p xs k d
 
 pub none_position : {X : Type 0} (p : X → Bool) (xs : List X) → position p xs ≡ None → All (λ x. p x ≡ false) xs
 none_position p xs none k d below = none_position-step p xs k d none below (cases_lt (position_or_len p xs) (length xs))
+
+-- what holds of the elements so far, and of the next one
+pub every_more : {X : Type 0} (P : X → Type 0) (xs : List X) (n : ℕ) (x : X) → n < length xs → x ≡ get_or xs n x
+    → ((k : ℕ) (d : X) → k < n → P (get_or xs k d)) → P x → (k : ℕ) (d : X) → k < n + 1 → P (get_or xs k d)
+every_more P xs n x below is before here k d less = by (cases_lt k n)
+  where
+    by : (k < n) ⊎ (n ≤ k) → P (get_or xs k d)
+    by (inl earlier) = before k d earlier
+    by (inr last) =
+        let same : k ≡ n = omega (arith, less, last) in
+        rw same (subst P (is ∙ get_or_default xs n x d below) here)

@@ -1,2 +1,5 @@
 mod AcceptedLemmas
 mod FindLemmas
+mod OkLemmas
+mod QuickLemmas
+mod WalkLemmas

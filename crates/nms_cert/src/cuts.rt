@@ -111,7 +111,13 @@ pub(crate) fn some_is_out_of_range(cuts: &[Cut]) -> bool
 }
 
 /// Whether a plan might cost less by a cut's marginal.
-fn fails_bound(rows: &[UsableRow], most: u64, cost: Money, cutoff: Rank, kind: CutKind) -> bool
+pub(crate) fn fails_bound(
+    rows: &[UsableRow],
+    most: u64,
+    cost: Money,
+    cutoff: Rank,
+    kind: CutKind,
+) -> bool
     requires rows { length rows.now ≤ MOST_ROWS }
     requires most { most ≤ MOST_SHARES }
     requires range { is_out_of_range kind ≡ false }

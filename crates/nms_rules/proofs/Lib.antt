@@ -2,6 +2,7 @@ pub mod ApartLemmas
 pub mod CutoffLemmas
 mod FindLemmas
 pub mod GivenLemmas
+pub mod HeldLemmas
 pub mod LawfulLemmas
 pub mod LegLemmas
 pub mod MemberLemmas
@@ -14,4 +15,5 @@ mod PaidLemmas
 pub mod SignedLemmas
 mod SoundLemmas
 pub mod SumLemmas
+pub mod TotalLemmas
 pub mod Offered

@@ -1,6 +1,6 @@
 //! What must be swept at a cutoff, what the pool has, and the least that filling n shares can cost:
 //! `specs/Cutoff`.
-ghost use Rattle.std.specs.Prelude.{◌≡◌, ◌≤◌, ◌*◌, ◌^◌, ◌-ℤ◌, ◌≤ℤ◌, neg_ℤ, pos, length};
+ghost use Rattle.std.specs.Prelude.{◌≡◌, ◌≤◌, ◌+◌, ◌*◌, ◌^◌, ◌+ℤ◌, ◌-ℤ◌, ◌≤ℤ◌, neg_ℤ, pos, length};
 ghost use Rattle.std.specs.Int.{int_max};
 ghost use Rattle.nms_rules.specs.Assignment.{fillable, total};
 ghost use Rattle.nms_rules.specs.Cutoff.{is_pooled, is_swept, least_cost, pool, pool_part, savings, savings_part, swept, swept_cost, swept_cost_part, swept_part};
@@ -152,36 +152,73 @@ fn minus(one: Money, other: Money) -> Money
     Money::new(one.get() - other.get())
 }
 
-/// What the shares that must be swept cost.
-#[tactic(auto, using(crate::proofs::SumLemmas::amount_none, crate::proofs::SumLemmas::amount_more))]
-fn swept_cost(rows: &[UsableRow], cutoff: Rank) -> Money
-    requires { length rows.now ≤ MOST_ROWS }
-    ensures sum { result ≡ swept_cost cutoff rows.now }
-    ensures low { neg_ℤ (pos (2 ^ 105)) ≤ℤ result }
-    ensures high { result ≤ℤ pos (2 ^ 105) }
-{
-    let mut sum = Money::new(0);
-    for row in rows {
-        sum = sum.plus(swept_cost_part(row, cutoff));
-    }
-    sum
+/// The sums over rows at a cutoff.
+#[derive(Clone, Copy)]
+struct Sums {
+    /// How many shares must be swept.
+    swept: u64,
+    /// What those cost.
+    swept_cost: Money,
+    /// How much less than the marginal the shares of the pool cost, if less.
+    savings: Money,
 }
 
-/// How much less than the marginal the shares of the pool cost, if less.
-#[tactic(auto, using(crate::proofs::SumLemmas::amount_none, crate::proofs::SumLemmas::amount_more))]
-fn savings(rows: &[UsableRow], cutoff: Rank, marginal: Money) -> Money
+impl Sums {
+    /// Those over no rows.
+    fn none() -> Self
+        ensures { result ≡ record { swept = 0; swept_cost = pos 0; savings = pos 0 } }
+    {
+        Sums {
+            swept: 0,
+            swept_cost: Money::new(0),
+            savings: Money::new(0),
+        }
+    }
+}
+
+/// The sums with one more row.
+fn with_row(sums: Sums, row: &UsableRow, cutoff: Rank, marginal: Money) -> Sums
+    requires swept { sums.swept ≤ 2 ^ 37 }
+    requires cost_low { neg_ℤ (pos (2 ^ 106)) ≤ℤ sums.swept_cost }
+    requires cost_high { sums.swept_cost ≤ℤ pos (2 ^ 106) }
+    requires savings_low { neg_ℤ (pos (2 ^ 106)) ≤ℤ sums.savings }
+    requires savings_high { sums.savings ≤ℤ pos (2 ^ 106) }
+    requires low { neg_ℤ (pos (10 ^ 18)) ≤ℤ marginal }
+    requires high { marginal ≤ℤ pos (10 ^ 18) }
+    ensures swept { result.swept ≡ sums.swept + swept_part cutoff row.now }
+    ensures within { swept_part cutoff row.now ≤ MOST_SIZE }
+    ensures swept_cost { result.swept_cost ≡ sums.swept_cost +ℤ swept_cost_part cutoff row.now }
+    ensures cost_low { neg_ℤ (pos (2 ^ 100)) ≤ℤ swept_cost_part cutoff row.now }
+    ensures cost_high { swept_cost_part cutoff row.now ≤ℤ pos (2 ^ 100) }
+    ensures savings { result.savings ≡ sums.savings +ℤ savings_part cutoff marginal row.now }
+    ensures savings_low { neg_ℤ (pos (2 ^ 100)) ≤ℤ savings_part cutoff marginal row.now }
+    ensures savings_high { savings_part cutoff marginal row.now ≤ℤ pos (2 ^ 100) }
+{
+    Sums {
+        swept: sums.swept + swept_part(row, cutoff),
+        swept_cost: sums.swept_cost.plus(swept_cost_part(row, cutoff)),
+        savings: sums.savings.plus(savings_part(row, cutoff, marginal)),
+    }
+}
+
+/// The sums over all rows, in one walk.
+fn sums_at(rows: &[UsableRow], cutoff: Rank, marginal: Money) -> Sums
     requires rows { length rows.now ≤ MOST_ROWS }
     requires low { neg_ℤ (pos (10 ^ 18)) ≤ℤ marginal }
     requires high { marginal ≤ℤ pos (10 ^ 18) }
-    ensures sum { result ≡ savings cutoff marginal rows.now }
-    ensures low { neg_ℤ (pos (2 ^ 105)) ≤ℤ result }
-    ensures high { result ≤ℤ pos (2 ^ 105) }
+    ensures swept { result.swept ≡ swept cutoff rows.now }
+    ensures swept_cost { result.swept_cost ≡ swept_cost cutoff rows.now }
+    ensures cost_low { neg_ℤ (pos (2 ^ 105)) ≤ℤ result.swept_cost }
+    ensures cost_high { result.swept_cost ≤ℤ pos (2 ^ 105) }
+    ensures savings { result.savings ≡ savings cutoff marginal rows.now }
+    ensures savings_low { neg_ℤ (pos (2 ^ 105)) ≤ℤ result.savings }
+    ensures savings_high { result.savings ≤ℤ pos (2 ^ 105) }
 {
-    let mut sum = Money::new(0);
+    let mut sums = Sums::none();
     for row in rows {
-        sum = sum.plus(savings_part(row, cutoff, marginal));
+        sums = with_row(sums, row, cutoff, marginal);
     }
-    sum
+    sums
 }
 
 /// The least cost of filling n shares at that rank and no worse, by a marginal: the price, in nanodollars, of
@@ -195,7 +232,8 @@ pub fn least_cost(rows: &[UsableRow], most: u64, cutoff: Rank, marginal: Money) 
     requires high { marginal ≤ℤ pos (10 ^ 18) }
     ensures { result ≡ least_cost rows.now most cutoff marginal }
 {
-    let rest = most.saturating_sub(swept(rows, cutoff));
-    let paid = swept_cost(rows, cutoff).plus(marginal.times(rest));
-    minus(paid, savings(rows, cutoff, marginal))
+    let sums = sums_at(rows, cutoff, marginal);
+    let rest = most.saturating_sub(sums.swept);
+    let paid = sums.swept_cost.plus(marginal.times(rest));
+    minus(paid, sums.savings)
 }

@@ -1,13 +1,14 @@
 //! Tests of a leg against the quotation that it goes to, and of all legs together: `specs/Breach`.
-ghost use Rattle.std.specs.Prelude.{◌≡◌, ◌≤◌, ◌^◌, ◌≤ℤ◌, neg_ℤ, pos, length};
+ghost use Rattle.std.specs.Prelude.{◌≡◌, ◌<◌, ◌≤◌, ◌^◌, ◌≤ℤ◌, neg_ℤ, pos, length};
+ghost use Rattle.nms_board.specs.Shown.{seen_on};
 ghost use Rattle.nms_rules.specs.Breach.{first_traded_through, goes_to, has_leg_beyond, has_no_shares, has_other_price, has_repeat, is_beyond_limit, is_over_size, is_traded_through, lacks_quotation, row_for, some_has_no_shares, some_has_other_price, some_is_beyond_limit, some_is_over_size, some_lacks_quotation};
 ghost use Rattle.nms_rules.specs.Faultless.{cost_of, given_by, leg_cost, sum_of};
 ghost use Rattle.nms_rules.specs.Usable.{contra, is_better};
 
 use crate::self_help::{is_allowed, is_binding};
-use nms_board::{MOST_ROWS, Row, View, is_better_price};
+use nms_board::{Boards, MOST_ROWS, Row, View, is_better_price};
 use nms_fee_book::FeeBook;
-use nms_quote::{Leg, Order, OrderSide, Part, Side};
+use nms_quote::{Leg, Order, OrderSide, Part, Side, Sym};
 use nms_units::{Money, Price};
 
 /// The side that an order trades with: offers for a buyer, bids for a seller.
@@ -32,6 +33,18 @@ pub fn row_for(view: &View, side: OrderSide, leg: &Leg) -> Option<Row>
     ensures { result ≡ row_for view.now side leg.now }
 {
     view.row(contra(side), leg.part)
+}
+
+/// As `row_for`, but on what a look at a board shows of a symbol. It is read off the board, with no view made.
+pub fn row_for_on(board: &Boards, side: OrderSide, sym: Sym, leg: &Leg) -> Option<Row>
+    requires { sym < length board.now.sizes.lots }
+    ensures { result ≡ row_for (seen_on board.now sym) side leg.now }
+{
+    if leg.part.get() < board.parts() {
+        board.row(contra(side), leg.part, sym)
+    } else {
+        None
+    }
 }
 
 /// Whether a leg goes to no quotation, to one of a participant that the order names, or to a manual one not allowed.
@@ -127,7 +140,7 @@ fn has_leg_to(legs: &[Leg], part: Part) -> bool
 
 /// Whether two legs go to one participant.
 #[tactic(auto, unfolding(crate::specs::Breach::has_repeat))]
-pub(crate) fn has_repeat(legs: &[Leg]) -> bool
+pub fn has_repeat(legs: &[Leg]) -> bool
     ensures { result ≡ has_repeat legs.now }
 {
     let mut behind = legs;

@@ -24,9 +24,9 @@ pub use laws::{
     naming_one_leaves_the_others,
 };
 pub use leg_test::{
-    contra, cost_of, given_to, has_other_price, is_better, is_over_size, is_traded_through,
-    lacks_quotation, row_for, sum_of,
+    contra, cost_of, given_to, has_other_price, has_repeat, is_better, is_over_size,
+    is_traded_through, lacks_quotation, row_for, row_for_on, sum_of,
 };
 pub use rank::Rank;
 pub use through::traded_through;
-pub use usable_row::{UsableRow, is_usable, usable_rows};
+pub use usable_row::{UsableRow, is_usable, put_usable_rows, usable_rows};

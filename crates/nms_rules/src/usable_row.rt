@@ -1,13 +1,14 @@
 //! The quotations that an order may trade with, as they stand in a view: `specs/Usable`.
-ghost use Rattle.std.specs.Prelude.{◌≡◌, map};
-ghost use Rattle.std.specs.List.Sorted.{IsStrictlyIncreasing};
-ghost use Rattle.nms_rules.specs.Usable.{contra_rows, is_usable, usable};
+ghost use Rattle.std.specs.Prelude.{◌≡◌, ◌+◌, ◌++◌, ◌<◌, ◌≤◌, ◌≤ℤ◌, [], ◌∷◌, AllPairs, false, filter, length, map};
+ghost use Rattle.std.specs.List.Sorted.{IsPermutation, IsStrictlyIncreasing};
+ghost use Rattle.nms_board.specs.Shown.{seen_on};
+ghost use Rattle.nms_rules.specs.Usable.{contra_rows, is_better, is_usable, usable, usable_row};
 
 use crate::leg_test::{contra, is_better};
 use crate::rank::Rank;
 use crate::self_help::is_allowed;
 use arrayvec::ArrayVec;
-use nms_board::{MOST_ROWS, Row, View};
+use nms_board::{Boards, MOST_ROWS, Row, View};
 use nms_fee_book::FeeBook;
 use nms_quote::{Order, OrderSide, Part};
 use nms_units::{Money, Price};
@@ -105,6 +106,47 @@ pub fn usable_rows(view: &View, order: &Order, fees: &FeeBook) -> ArrayVec<Usabl
         }
     }
     usable
+}
+
+/// Puts the rows of `usable_rows`, best price first, in place of those in a list, but of what a look at a board shows of the
+/// order's symbol. They are read off the board in rank order, with no view made, up to the first one beyond the limit.
+/// Takes no memory.
+pub fn put_usable_rows(
+    board: &Boards,
+    order: &Order,
+    fees: &FeeBook,
+    rows: &mut ArrayVec<UsableRow, MOST_ROWS>,
+)
+    requires { order.now.sym < length board.now.sizes.lots }
+    ensures same { IsPermutation (usable (seen_on board.now order.now.sym) order.now fees.now) rows.new.items }
+    ensures ordered { AllPairs (λ row later. row.rank ≤ℤ later.rank) rows.new.items }
+{
+    board.shows_rows(order.sym);
+    let side = contra(order.side);
+    rows.clear();
+    for at in 0..board.parts() {
+        let Some(row) = board.ranked(side, order.sym, at) else {
+            return;
+        };
+        if is_better(order.side, order.limit, row.price) {
+            return;
+        }
+        put_usable(order, fees, &row, rows);
+    }
+}
+
+/// Appends a row within the limit, if an order may trade with it.
+#[inline(always)]
+fn put_usable(order: &Order, fees: &FeeBook, row: &Row, rows: &mut ArrayVec<UsableRow, MOST_ROWS>)
+    requires room { length rows.old.items < MOST_ROWS }
+    requires limit { is_better order.now.side order.now.limit row.now.price ≡ false }
+    ensures rows { rows.new.items ≡ rows.old.items
+        ++ map (usable_row order.now fees.now) (filter (is_usable order.now) (row.now ∷ [])) }
+    ensures count { length rows.new.items ≤ length rows.old.items + 1 }
+{
+    if is_allowed(order, row) {
+        rows.push(UsableRow::of(order, fees, row));
+    }
 }
 
 /// Whether an order may trade with a row: of nobody named, protected, or manual if the order allows it, and within the

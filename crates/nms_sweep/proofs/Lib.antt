@@ -6,7 +6,6 @@ mod ExactLemmas
 mod FillingLemmas
 mod FitLemmas
 mod FrontLemmas
-mod HeldLemmas
 mod LegLemmas
 mod MarginalLemmas
 mod NearLemmas

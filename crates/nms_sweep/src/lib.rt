@@ -16,4 +16,4 @@ mod taking;
 pub use cutoffs::{Cutoff, Cutoffs};
 pub use laws::an_accepted_plan_is_within_bounds;
 pub use planner::Planner;
-pub use planning::{plan, plan_into};
+pub use planning::{plan, plan_into, plan_on};

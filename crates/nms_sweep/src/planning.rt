@@ -1,5 +1,6 @@
 //! The plan of least cost for an order, and the certificate that shows it: `specs/Accepted` of `nms_rules`.
 ghost use Rattle.std.specs.Prelude.{ℤ, ◌≡◌, ◌<◌, ◌≤◌, ◌+◌, [], None, true, length, slice_index_or, take};
+ghost use Rattle.nms_board.specs.Shown.{seen_on};
 ghost use Rattle.nms_board.specs.View.{Seen};
 ghost use Rattle.nms_fee_book.specs.Fees.{Charges};
 ghost use Rattle.nms_rules.specs.Accepted.{IsAccepted};
@@ -18,7 +19,7 @@ use crate::legs::put_legs;
 use crate::priced_row::PricedRow;
 use crate::row_order::{Key, put_among};
 use arrayvec::ArrayVec;
-use nms_board::{MOST_ROWS, View};
+use nms_board::{Boards, MOST_ROWS, View};
 use nms_fee_book::FeeBook;
 use nms_quote::{Certificate, Order, Plan};
 use nms_units::{MOST_SHARES, Money, Shares};
@@ -72,6 +73,32 @@ pub fn plan_into(
 {
     let version = view.version();
     let mut cutoffs = Cutoffs::new(view, order, fees);
+    let mut by_cost = ArrayVec::new_in(());
+    fill(version, order, &mut cutoffs, &mut by_cost, plan, cuts);
+}
+
+/// As `plan_into`, but on what a look at a board shows of the order's symbol. The rows are read off the board, with no view
+/// made. Takes no memory. Who plans many orders one after another keeps a `Planner`: it clears no room for each.
+pub fn plan_on(
+    board: &Boards,
+    order: &Order,
+    fees: &FeeBook,
+    plan: &mut Plan,
+    cuts: &mut Certificate,
+)
+    requires { order.now.sym < length board.now.sizes.lots }
+    ensures lawful { breach_of (seen_on board.now order.now.sym) order.now fees.now plan.new ≡ None }
+    ensures most { plan.new.filled ≡ fillable (usable (seen_on board.now order.now.sym) order.now fees.now) order.now.shares }
+    ensures accepted { IsAccepted (seen_on board.now order.now.sym) order.now fees.now plan.new cuts.new.items }
+    ensures optimal { IsOptimal (usable (seen_on board.now order.now.sym) order.now fees.now) order.now.shares (given_by plan.new.legs.items) }
+    ensures ordered { AreInOrder order.now.side plan.new.legs.items }
+    ensures filling { FillsInOrder (usable (seen_on board.now order.now.sym) order.now fees.now) (given_by plan.new.legs.items) }
+    ensures exact { AreExact order.now.side (usable (seen_on board.now order.now.sym) order.now fees.now) plan.new.filled cuts.new.items }
+{
+    let version = board.applied();
+    board.shows_rows(order.sym);
+    let mut cutoffs = Cutoffs::none();
+    cutoffs.set_on(board, order, fees);
     let mut by_cost = ArrayVec::new_in(());
     fill(version, order, &mut cutoffs, &mut by_cost, plan, cuts);
 }

@@ -1,14 +1,13 @@
 -- `confirm`: clauses `accepted` and `optimal`, by `accepted_of_none`, `none_of_accepted` and `optimal`.
 use Rattle.std.proofs.Common.{◌≡◌, IsNone, None, Some, Option, refl, ap, sym, ◌∙◌}
-use Rattle.std.specs.Prelude.{Result, Ok, Err, IsOk, OnOk}
 use Rattle.std.specs.Option.{is_some}
 use Rattle.std.specs.Result.{result_err}
 use Rattle.std.proofs.lemmas.Bool.{false≢true}
 use Rattle.nms_rules.specs.Breach.{breach_of}
 use Rattle.nms_rules.specs.declared.breach_kind.Breach.{Breach}
 use Rattle.nms_cert.specs.Doubts.{doubt_of}
-use Rattle.nms_cert.specs.declared.doubt.Doubt.{Doubt}
 use Rattle.nms_cert.proofs.AcceptedLemmas.{accepted_of_none, none_of_accepted}
+use Rattle.nms_cert.proofs.OkLemmas.{none-ok, of-ok, ok-none, on-ok}
 use Rattle.nms_rules.proofs.Offered.{optimal}
 use Rattle.nms_cert.proofs.confirming.confirm.Goals as goal
 
@@ -18,22 +17,6 @@ none-is (Some breach) none = absurd (false≢true (sym none))
 
 is-none : (found : Option Breach) → found ≡ None → IsNone found
 is-none found e = ap is_some e
-
-ok-none : (result : Result (Unit {0}) Doubt) → IsOk result → result_err result ≡ None
-ok-none (Ok done) ok = refl
-ok-none (Err doubt) ok = absurd (false≢true ok)
-
-none-ok : (result : Result (Unit {0}) Doubt) → result_err result ≡ None → IsOk result
-none-ok (Ok done) none = refl
-none-ok (Err doubt) none = absurd (false≢true (sym (ap is_some none)))
-
-on-ok : (result : Result (Unit {0}) Doubt) (P : Type 0) → (IsOk result → P) → OnOk result P
-on-ok (Ok done) P holds = holds refl
-on-ok (Err doubt) P holds = tt
-
-of-ok : (result : Result (Unit {0}) Doubt) (P : Type 0) → OnOk result P → IsOk result → P
-of-ok (Ok done) P holds ok = holds
-of-ok (Err doubt) P holds ok = absurd (false≢true ok)
 
 pub returns-clause-accepted : goal.returns-clause-accepted
 returns-clause-accepted c =
