@@ -176,6 +176,17 @@ static void add_row(const nms_row *row)
     add(is_there ? row->is_protected : 0);
 }
 
+static void add_through(const nms_through *through)
+{
+    add(through->version);
+    add(through->bids);
+    add(through->offers);
+    for (int at = 0; at < NMS_MOST_PARTS; ++at)
+        add_row(&through->bid[at]);
+    for (int at = 0; at < NMS_MOST_PARTS; ++at)
+        add_row(&through->offer[at]);
+}
+
 static void add_plan(const nms_plan *plan)
 {
     add(plan->version);
@@ -203,6 +214,7 @@ int main(int argc, char **words)
     nms_best best;
     nms_plan plan;
     nms_doubt doubt;
+    nms_through passed;
     if (argc != 3)
         return 2;
     char *setup = text_of(words[1], &bytes);
@@ -245,6 +257,7 @@ int main(int argc, char **words)
     /* Each call by itself, and a sum of what all of them answer. */
     times apply = { malloc(count * sizeof(int64_t)), 0 }, looks = { malloc(count * sizeof(int64_t)), 0 };
     times planning = { malloc(count * sizeof(int64_t)), 0 }, confirming = { malloc(count * sizeof(int64_t)), 0 };
+    times through = { malloc(count * sizeof(int64_t)), 0 };
     must(nms_open(setup, bytes, &board), "nms_open");
     for (size_t at = 0; at < count; ++at) {
         const operation *it = &operations[at];
@@ -264,6 +277,11 @@ int main(int argc, char **words)
             code = nms_confirm(&board, &it->order, &plan, &doubt);
             confirming.taken[confirming.count++] = now() - from;
             must(code, "nms_confirm");
+            from = now();
+            code = nms_traded_through(&board, it->sym, it->order.limit * 100, &passed);
+            through.taken[through.count++] = now() - from;
+            must(code, "nms_traded_through");
+            add_through(&passed);
         }
         if (it->has_sym) {
             from = now();
@@ -281,6 +299,7 @@ int main(int argc, char **words)
     print_times("best", &looks, clock);
     print_times("plan", &planning, clock);
     print_times("confirm", &confirming, clock);
+    print_times("through", &through, clock);
     printf("sum %016" PRIx64 "\n", sum);
     return 0;
 }

@@ -2,8 +2,8 @@
  *
  * HOW TO CALL
  *   Every call returns a code of `enum nms_code`: NMS_OK (0), or why it was refused. A refused call leaves the board
- *   as it was and writes nothing to the caller's structs. Three calls differ, and say so: nms_apply_all, nms_confirm and
- *   nms_confirm_view.
+ *   as it was and writes nothing to the caller's structs. Seven calls differ, and say so: nms_apply_all, nms_apply_best,
+ *   nms_apply_lines, nms_best_all, nms_plan_all, nms_confirm and nms_confirm_view.
  *   Set a board to NMS_BOARD_CLOSED before nms_open. Close each board that was opened, once. Terms likewise.
  *   Find the number of a name once (nms_find_part, nms_find_sym), and use the number after that. A participant's number is
  *   its place in the setup's document, 0 to 31; so is a symbol's, 0 to 999.
@@ -12,14 +12,21 @@
  *   Prices are in 1/10,000 dollar, 1 to 99,999,999,999 (9,999,999.9999 dollars). A price for nms_traded_through is in
  *   1/1,000,000 dollar. Shares are 1 to 999,999,999. Money is in nanodollars (10^-9 dollar).
  *
+ * HOW MANY CHANGES
+ *   A board takes 2^63 changes, whatever its setup's tape_limit says: the library keeps no tape. It holds two boards, and shows
+ *   one. When that one has taken 9,990,000 changes, each further change also brings one symbol to the other. Once the other has
+ *   all symbols it is shown. Rows, their ranks and plans are as if there were one board, and versions go on. Only receipts start
+ *   again: nms_row says what they promise.
+ *
  * MEMORY
  *   nms_open takes memory, and nms_close gives it back; nms_terms_open and nms_terms_close likewise. nms_setup_place takes
  *   memory and gives it back before it returns. No other call takes any. The caller's structs may lie anywhere: on the stack,
  *   in an array, in shared memory.
  *   Stack that a call needs, in KiB; a thread or a fiber with less room dies in the call:
  *     nms_open 2048, nms_terms_open 2048, nms_setup_place 2048, nms_read_plan 96, nms_plan_view 32, nms_confirm_view 32,
- *     nms_plan_order 24, nms_through_view 24, nms_confirm 20, nms_opening_of 16, nms_plan_text 12, nms_traded_through 12,
- *     any other call 4
+ *     nms_plan_order 24, nms_through_view 24, nms_plan_all 24, nms_apply 20, nms_apply_all 20, nms_apply_best 20,
+ *     nms_apply_text 20, nms_apply_lines 20, nms_confirm 20, nms_opening_of 16, nms_reduce_view 16, nms_plan_text 12,
+ *     nms_traded_through 12, any other call 4
  *   nms_open, nms_terms_open and nms_setup_place take 48 for a text that is a setup. They take more for one that nests, up to
  *   80 tables with keys of 80 parts each, which are the most that TOML text may have here.
  *
@@ -35,10 +42,11 @@
  * A VIEW IS A VALUE
  *   nms_view_of writes all that a look at a symbol shows. The struct may be copied, sent and stored. nms_plan_view,
  *   nms_confirm_view and nms_through_view work on it, with no board: they promise what nms_plan_order, nms_confirm and
- *   nms_traded_through promise of the board at that version. nms_terms are the roster and the fees, which stay as they are from
- *   nms_terms_open to nms_terms_close. So any number of threads may make these calls at once, also beside changes of a board,
- *   with no lock. A caller who shares a view while another thread writes it has to see to it that it reads a whole one. What a
- *   torn copy mostly shows is answered NMS_NO_VIEW: numbers that no look shows.
+ *   nms_traded_through promise of the board at that version. nms_reduce_view makes another view of it, with at most a given
+ *   number of shares of each participant. nms_terms are the roster and the fees, which stay as they are from nms_terms_open to
+ *   nms_terms_close. So any number of threads may make these calls at once, also beside changes of a board, with no lock. A
+ *   caller who shares a view while another thread writes it has to see to it that it reads a whole one. What a torn copy mostly
+ *   shows is answered NMS_NO_VIEW: numbers that no look shows.
  *
  * WHAT A LOOK COPIES
  *   The library's function takes its right to read the board out of the handle that it is given, and puts it back before it
@@ -105,7 +113,7 @@ enum nms_code {
     NMS_RANGE = 10,           /* a number that is out of its range, or a side with a price and no shares, or the reverse */
     NMS_NO_PART = 11,         /* no such participant on the roster */
     NMS_NO_SYM = 12,          /* no such symbol on the roster */
-    NMS_FULL = 13,            /* the tape has as many changes as the setup's tape_limit allows */
+    NMS_FULL = 13,            /* the board has taken 2^63 changes */
     NMS_NONE = 14,            /* no row at that place, no such code */
     NMS_CLOSED = 15,          /* the board is not open, or the terms: never opened, closed, or overwritten */
     NMS_DOUBTED = 16,         /* the plan is not confirmed: nms_doubt says why */
@@ -171,11 +179,13 @@ typedef struct nms_change {
     uint8_t part, kind, state, spare;
 } nms_change;
 
-/* A quotation of at least one round lot. size 0: no row. */
+/* A quotation of at least one round lot; in a view of nms_reduce_view it may be less. size 0: no row. */
 typedef struct nms_row {
     uint64_t price;       /* 1/10,000 dollar */
-    uint64_t receipt;     /* the number of the change that last altered the side's price or shares, from 1 on */
-    uint32_t size;        /* shares, whole round lots */
+    /* Receipts of one symbol are in the order of the changes that last altered a side's price or shares. Each is from 1 on, and
+     * at most the version. Until 9,990,000 changes were applied it is the number of that change. */
+    uint64_t receipt;
+    uint32_t size;        /* shares; of a board, whole round lots */
     uint8_t part;
     uint8_t is_protected; /* 1: automated, a protected quotation; 0: manual */
     uint16_t spare;       /* 0 */
@@ -275,7 +285,7 @@ typedef struct nms_place {
 /* What a board holds. */
 typedef struct nms_counts {
     uint64_t applied; /* changes applied */
-    uint64_t room;    /* changes that may still be applied, by the setup's tape_limit */
+    uint64_t room;    /* changes that may still be applied: 2^63 less those */
     uint32_t parts, syms;
 } nms_counts;
 
@@ -337,13 +347,17 @@ uint32_t nms_raw_part_name(nms_board *look, uint8_t part, uint8_t *out, size_t r
 uint32_t nms_raw_sym_name(nms_board *look, uint16_t sym, uint8_t *out, size_t room, size_t *bytes);
 uint32_t nms_raw_apply(nms_board *board, const nms_change *change);
 uint32_t nms_raw_apply_all(nms_board *board, const nms_change *changes, size_t count, size_t *applied);
+uint32_t nms_raw_apply_best(nms_board *board, const nms_change *changes, size_t count, nms_best *best, size_t places, size_t *applied);
 uint32_t nms_raw_apply_text(nms_board *board, const uint8_t *record, size_t record_bytes);
+uint32_t nms_raw_apply_lines(nms_board *board, const uint8_t *text, size_t text_bytes, size_t *applied, size_t *at);
 uint32_t nms_raw_best_of(nms_board *look, uint16_t sym, nms_best *best);
+uint32_t nms_raw_best_all(nms_board *look, const uint16_t *syms, size_t count, nms_best *best, size_t places, size_t *done);
 uint32_t nms_raw_ranked(nms_board *look, uint16_t sym, uint8_t side, uint8_t place, nms_row *row);
 uint32_t nms_raw_rows_of(nms_board *look, uint16_t sym, uint8_t side, nms_rows *rows);
 uint32_t nms_raw_view_of(nms_board *look, uint16_t sym, nms_view *view);
 uint32_t nms_raw_traded_through(nms_board *look, uint16_t sym, uint64_t millionths, nms_through *through);
 uint32_t nms_raw_plan_order(nms_board *look, const nms_order *order, nms_plan *plan);
+uint32_t nms_raw_plan_all(nms_board *look, const nms_order *orders, size_t count, nms_plan *plan, size_t places, size_t *done);
 uint32_t nms_raw_confirm(nms_board *look, const nms_order *order, const nms_plan *plan, nms_doubt *doubt);
 uint32_t nms_raw_unit_cost(nms_board *look, uint8_t part, uint8_t side, uint64_t price, int64_t *nanodollars);
 uint32_t nms_raw_plan_text(nms_board *board, const nms_order *order, const nms_plan *plan, uint8_t *out, size_t room, size_t *bytes);
@@ -358,6 +372,7 @@ uint32_t nms_raw_terms_sym_name(nms_terms *look, uint16_t sym, uint8_t *out, siz
 uint32_t nms_raw_plan_view(nms_terms *look, const nms_view *view, const nms_order *order, nms_plan *plan);
 uint32_t nms_raw_confirm_view(nms_terms *look, const nms_view *view, const nms_order *order, const nms_plan *plan, nms_doubt *doubt);
 uint32_t nms_raw_through_view(const nms_view *view, uint64_t millionths, nms_through *through);
+uint32_t nms_raw_reduce_view(const nms_view *view, uint8_t side, const uint32_t *most, nms_view *reduced);
 
 /* ---- the calls ---- */
 
@@ -501,6 +516,19 @@ static inline uint32_t nms_apply_all(nms_board *board, const nms_change *changes
     return nms_raw_apply_all(board, (const nms_change *)nms_from(changes), count, applied);
 }
 
+/* Applies changes in order, up to the first that is refused, and writes the best bid and the best offer of a change's symbol
+ * after it. The array has a place for each change. Of a withdrawal the sym is used too, for the rows that are written.
+ * *applied is how many were applied: those stay on the board, and the answer is the code of the next one. Codes: as nms_apply.
+ * *applied is written unless the answer is NMS_CLOSED or NMS_NULL. Needs an exclusive lock. */
+static inline uint32_t nms_apply_best(nms_board *board, const nms_change *changes, size_t count, nms_best *best, size_t *applied)
+{
+    nms_best none;
+    if (!board || ((!changes || !best) && count > 0) || !applied) {
+        return NMS_NULL;
+    }
+    return nms_raw_apply_best(board, (const nms_change *)nms_from(changes), count, best ? best : &none, count, applied);
+}
+
 /* Applies the change that one record says, as "Q,NYSE,ABC,A,10.01,300,10.03,200": a line of a file of changes, with or
  * without its end of line. Records of kinds Q, S, X and R are read, of any participant. Its fields are what stands between
  * the commas: none of them needs a quote, and no quote is read. nms_raw_apply_text takes no end of line.
@@ -520,6 +548,21 @@ static inline uint32_t nms_apply_text(nms_board *board, const char *record, size
     return nms_raw_apply_text(board, (const uint8_t *)nms_from(record), record_bytes);
 }
 
+/* Applies the changes that the lines of a text say, in order up to the first that is refused. Each line is a record as of
+ * nms_apply_text. It ends with a line feed, or a carriage return and one, and the last line may have no end. A file of
+ * changes is read with more leave: here a blank line is a record of an unknown kind (NMS_L1), no byte order mark is dropped, and
+ * a carriage return without a line feed ends no line. *applied is how many were applied: those stay on the board, and the answer
+ * is the code of the next one. *at is the byte where that one begins, or text_bytes if all were applied: the text from there on
+ * has the lines that are left. Codes: as nms_apply_text. *applied and *at are written unless the answer is NMS_CLOSED or
+ * NMS_NULL. Needs an exclusive lock. */
+static inline uint32_t nms_apply_lines(nms_board *board, const char *text, size_t text_bytes, size_t *applied, size_t *at)
+{
+    if (!board || (!text && text_bytes > 0) || !applied || !at) {
+        return NMS_NULL;
+    }
+    return nms_raw_apply_lines(board, (const uint8_t *)nms_from(text), text_bytes, applied, at);
+}
+
 /* Writes the best bid, the best offer and the state of the market of a symbol. Codes: NMS_NO_SYM, NMS_CLOSED. */
 static inline uint32_t nms_best_of(const nms_board *board, uint16_t sym, nms_best *best)
 {
@@ -528,6 +571,19 @@ static inline uint32_t nms_best_of(const nms_board *board, uint16_t sym, nms_bes
     }
     nms_board look = *board;
     return nms_raw_best_of(&look, sym, best);
+}
+
+/* Writes the best bid and the best offer of each symbol, up to the first that is refused. *done is how many were written, and
+ * the answer is the code of the next symbol. Codes: NMS_NO_SYM, NMS_CLOSED. *done is written unless the answer is NMS_CLOSED or
+ * NMS_NULL. */
+static inline uint32_t nms_best_all(const nms_board *board, const uint16_t *syms, size_t count, nms_best *best, size_t *done)
+{
+    nms_best none;
+    if (!board || ((!syms || !best) && count > 0) || !done) {
+        return NMS_NULL;
+    }
+    nms_board look = *board;
+    return nms_raw_best_all(&look, (const uint16_t *)nms_from(syms), count, best ? best : &none, count, done);
 }
 
 /* Writes the row at a place of a side's rank order, from 0 on. side: enum nms_side.
@@ -586,6 +642,19 @@ static inline uint32_t nms_plan_order(const nms_board *board, const nms_order *o
     return nms_raw_plan_order(&look, order, plan);
 }
 
+/* Plans each order on the board as it is, up to the first that is refused: two plans may take the same shares. *done is how many
+ * were planned, and the answer is the code of the next order. Codes: as nms_plan_order. *done is written unless the answer is
+ * NMS_CLOSED or NMS_NULL. */
+static inline uint32_t nms_plan_all(const nms_board *board, const nms_order *orders, size_t count, nms_plan *plans, size_t *done)
+{
+    nms_plan none;
+    if (!board || ((!orders || !plans) && count > 0) || !done) {
+        return NMS_NULL;
+    }
+    nms_board look = *board;
+    return nms_raw_plan_all(&look, (const nms_order *)nms_from(orders), count, plans ? plans : &none, count, done);
+}
+
 /* Confirms on the board that a plan is lawful and the best one for the order, from any maker. It does not trust the
  * planner. A plan rests on one version of the whole board, so each change applied after it, of another symbol too, brings
  * doubt 1 and breach 1 (K1, P1). To ask whether the plan is still right, set plan.version to nms_counts.applied and
@@ -633,8 +702,8 @@ static inline uint32_t nms_read_plan(nms_board *board, const char *text, size_t 
 }
 
 /* Writes the changes that bring an empty board of the same setup to the symbol's rows: its round lot if it differs from
- * the setup's, then its sides in order of receipt, hidden ones included. A caller cuts its day with them: open a new
- * board, apply the opening of each symbol, close the old one. Codes: NMS_NO_SYM, NMS_CLOSED. */
+ * the setup's, then its sides in order of receipt, hidden ones included. So a board can go on elsewhere: open a new one, and
+ * apply the opening of each symbol. Its versions begin at 0. Codes: NMS_NO_SYM, NMS_CLOSED. */
 static inline uint32_t nms_opening_of(const nms_board *board, uint16_t sym, nms_opening *opening)
 {
     if (!board || !opening) {
@@ -735,6 +804,19 @@ static inline uint32_t nms_confirm_view(const nms_terms *terms, const nms_view *
 static inline uint32_t nms_through_view(const nms_view *view, uint64_t millionths, nms_through *through)
 {
     return view && through ? nms_raw_through_view(view, millionths, through) : (uint32_t)NMS_NULL;
+}
+
+/* Writes a view with at most most[n] shares of participant n on one side, for each n below NMS_MOST_PARTS. 0 leaves no row of it.
+ * Its row's size, or more, leaves the row as it is. Rows are ranked by what is left, and version, symbol and the other side stay.
+ * It is for a caller whose own orders have taken shares that the quotes still show. What it writes is a view for nms_plan_view,
+ * nms_confirm_view, nms_through_view and this call. A plan made or confirmed on it sends participant n at most most[n] shares, if
+ * the side is the one that the order trades with: NMS_OFFER for a buyer. On the whole view the same plan may be doubted.
+ * What is left of a row may be less than a round lot. It stays a row, protected as it was, so a plan takes it too: an order that
+ * took a part of a displayed size owes the rest.
+ * side: enum nms_side. Any number of threads may call at once. Codes, the first that holds: NMS_NO_VIEW, NMS_RANGE (the side). */
+static inline uint32_t nms_reduce_view(const nms_view *view, uint8_t side, const uint32_t *most, nms_view *reduced)
+{
+    return view && most && reduced ? nms_raw_reduce_view(view, side, most, reduced) : (uint32_t)NMS_NULL;
 }
 
 #ifdef __cplusplus

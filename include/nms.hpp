@@ -4,6 +4,7 @@
 
 #include <nms.h>
 
+#include <array>
 #include <cstddef>
 #include <exception>
 #include <optional>
@@ -112,9 +113,16 @@ inline void must_open(std::uint32_t code, std::string_view setup)
     must(code);
 }
 
-// How far a call with many changes came: how many were applied, and the code of the next one, NMS_OK if there is none.
-struct Applied {
+// How far a call of many came: how many were answered, and the code of the next one, NMS_OK if there is none.
+struct Done {
     std::size_t count;
+    std::uint32_t code;
+};
+
+// How far a call on lines came: how many were applied, the byte where the next one begins, and its code, NMS_OK if there is none.
+struct DoneLines {
+    std::size_t count;
+    std::size_t at;
     std::uint32_t code;
 };
 
@@ -185,11 +193,38 @@ public:
     std::uint32_t try_apply(const nms_change &change) noexcept { return nms_apply(&raw_, &change); }
     std::uint32_t try_apply(std::string_view record) noexcept { return nms_apply_text(&raw_, record.data(), record.size()); }
     // Changes in order, up to the first that is refused.
-    Applied try_apply(const nms_change *changes, std::size_t count) noexcept
+    Done try_apply(const nms_change *changes, std::size_t count) noexcept
     {
-        Applied applied{ 0, NMS_OK };
-        applied.code = nms_apply_all(&raw_, changes, count, &applied.count);
-        return applied;
+        Done done{ 0, NMS_OK };
+        done.code = nms_apply_all(&raw_, changes, count, &done.count);
+        return done;
+    }
+    // The same, with the best rows of each change's symbol after it.
+    Done try_apply(const nms_change *changes, std::size_t count, nms_best *best) noexcept
+    {
+        Done done{ 0, NMS_OK };
+        done.code = nms_apply_best(&raw_, changes, count, best, &done.count);
+        return done;
+    }
+    // The changes that the lines of a text say, as a file of changes has them, up to the first that is refused.
+    DoneLines try_apply_lines(std::string_view text) noexcept
+    {
+        DoneLines done{ 0, 0, NMS_OK };
+        done.code = nms_apply_lines(&raw_, text.data(), text.size(), &done.count, &done.at);
+        return done;
+    }
+    // The best rows of many symbols, and plans of many orders on the board as it is: up to the first that is refused.
+    Done try_best(const std::uint16_t *syms, std::size_t count, nms_best *best) const noexcept
+    {
+        Done done{ 0, NMS_OK };
+        done.code = nms_best_all(&raw_, syms, count, best, &done.count);
+        return done;
+    }
+    Done try_plan(const nms_order *orders, std::size_t count, nms_plan *plans) const noexcept
+    {
+        Done done{ 0, NMS_OK };
+        done.code = nms_plan_all(&raw_, orders, count, plans, &done.count);
+        return done;
     }
 
     nms_best best(std::uint16_t sym) const
@@ -366,6 +401,15 @@ inline nms_through through(const nms_view &view, std::uint64_t millionths)
     nms_through through;
     must(nms_through_view(&view, millionths, &through));
     return through;
+}
+
+// A view with at most most[n] shares of participant n on one side: for shares that one's own orders have taken, and that the
+// quotes still show. A buyer reduces the offers.
+inline nms_view reduced(const nms_view &view, nms_side side, const std::array<std::uint32_t, NMS_MOST_PARTS> &most)
+{
+    nms_view left;
+    must(nms_reduce_view(&view, static_cast<std::uint8_t>(side), most.data(), &left));
+    return left;
 }
 
 } // namespace nms

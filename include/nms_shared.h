@@ -10,7 +10,8 @@
  *
  * WHAT A READER SEES
  *   nms_shared_version is how many changes were published. If the writer publishes by nms_shared_put_change, the view of a
- *   symbol shows what the board shows at every version from the view's own up to that one, read before the view.
+ *   symbol shows what the board shows at every version from the view's own up to that one, read before the view. From 9,990,000
+ *   changes on that holds of rows, ranks and plans, but receipts may have begun anew (nms.h, HOW MANY CHANGES).
  *
  * This header is not proved: it is trusted, and tested by threads under a checker of races. It needs the builtins `__atomic_*` of
  * GCC or Clang, in C and in C++.

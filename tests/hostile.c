@@ -1,6 +1,6 @@
 /* A hostile caller: calls each function of nms.h with each bad number, size, name, kind and state of the handle, with the
- * bytes of each text cut and altered, with random bytes as every struct, with a full tape, and with each request for memory
- * refused in turn. Each call has to answer its code, and a refused one has to leave the board and the caller's structs as
+ * bytes of each text cut and altered, with random bytes as every struct, with more changes than tape_limit, and with each request
+ * for memory refused in turn. Each call has to answer its code, and a refused one has to leave the board and the caller's structs as
  * they were. An allocator that counts shows that no call takes memory but nms_open and nms_setup_place, and that they give all
  * of it back.
  *
@@ -194,9 +194,10 @@ static void every_call_is_closed(nms_board *board, const char *what)
     const nms_board before = *board;
     const nms_change change = quote(0, 0, 99900, 200, 100000, 300);
     const nms_order order = buy(0, 100, 100000);
+    const uint16_t sym = 0;
     unsigned char *out = filled(0, 4096, 0x5A);
     nms_plan *plan = filled(1, sizeof(nms_plan), 0);
-    size_t *bytes = filled(2, sizeof(size_t), 0x5A);
+    size_t *bytes = filled(2, sizeof(size_t), 0x5A), *place = filled(3, sizeof(size_t), 0x5A);
     const uint32_t codes[] = {
         nms_close(board),
         nms_counts_of(board, (nms_counts *)out),
@@ -206,13 +207,17 @@ static void every_call_is_closed(nms_board *board, const char *what)
         nms_sym_name(board, 0, (char *)out, 4096, bytes),
         nms_apply(board, &change),
         nms_apply_all(board, &change, 1, bytes),
+        nms_apply_best(board, &change, 1, (nms_best *)out, bytes),
         nms_apply_text(board, "X,N", 3),
+        nms_apply_lines(board, "X,N\n", 4, bytes, place),
         nms_best_of(board, 0, (nms_best *)out),
+        nms_best_all(board, &sym, 1, (nms_best *)out, bytes),
         nms_ranked(board, 0, NMS_BID, 0, (nms_row *)out),
         nms_rows_of(board, 0, NMS_BID, (nms_rows *)out),
         nms_view_of(board, 0, (nms_view *)out),
         nms_traded_through(board, 0, 10000000, (nms_through *)out),
         nms_plan_order(board, &order, (nms_plan *)out),
+        nms_plan_all(board, &order, 1, (nms_plan *)out, bytes),
         nms_confirm(board, &order, plan, (nms_doubt *)out),
         nms_unit_cost(board, 0, NMS_BUY, 100000, (int64_t *)out),
         nms_plan_text(board, &order, plan, (char *)out, 4096, bytes),
@@ -221,7 +226,8 @@ static void every_call_is_closed(nms_board *board, const char *what)
     };
     for (size_t at = 0; at < sizeof codes / sizeof codes[0]; ++at)
         equals(codes[at], NMS_CLOSED, what);
-    equals(is_filled(out, 4096, 0x5A) && is_filled(bytes, sizeof *bytes, 0x5A) && is_filled(plan, sizeof *plan, 0), 1, what);
+    equals(is_filled(out, 4096, 0x5A) && is_filled(bytes, sizeof *bytes, 0x5A) && is_filled(place, sizeof *place, 0x5A) &&
+               is_filled(plan, sizeof *plan, 0), 1, what);
     equals(memcmp(board, &before, sizeof before) == 0, 1, what);
 }
 
@@ -260,6 +266,7 @@ static void nulls(nms_board *board)
     nms_order order = buy(0, 100, 100000), *out_order = filled(1, sizeof *out_order, 0x5A);
     nms_plan plan, *out = filled(0, sizeof *out, 0x5A);
     size_t *bytes = filled(2, sizeof *bytes, 0x5A);
+    const uint32_t most = 0;
     char *text = (char *)out;
     equals(nms_plan_order(board, &order, &plan), NMS_OK, "an order is planned");
     const uint32_t codes[] = {
@@ -291,8 +298,24 @@ static void nulls(nms_board *board)
         nms_apply_all(NULL, &change, 1, bytes),
         nms_apply_all(board, NULL, 1, bytes),
         nms_apply_all(board, &change, 1, NULL),
+        nms_apply_best(NULL, &change, 1, (nms_best *)out, bytes),
+        nms_apply_best(board, NULL, 1, (nms_best *)out, bytes),
+        nms_apply_best(board, &change, 1, NULL, bytes),
+        nms_apply_best(board, &change, 1, (nms_best *)out, NULL),
+        nms_best_all(NULL, &change.sym, 1, (nms_best *)out, bytes),
+        nms_best_all(board, NULL, 1, (nms_best *)out, bytes),
+        nms_best_all(board, &change.sym, 1, NULL, bytes),
+        nms_best_all(board, &change.sym, 1, (nms_best *)out, NULL),
+        nms_plan_all(NULL, &order, 1, (nms_plan *)out, bytes),
+        nms_plan_all(board, NULL, 1, (nms_plan *)out, bytes),
+        nms_plan_all(board, &order, 1, NULL, bytes),
+        nms_plan_all(board, &order, 1, (nms_plan *)out, NULL),
         nms_apply_text(NULL, "X,N", 3),
         nms_apply_text(board, NULL, 1),
+        nms_apply_lines(NULL, "X,N", 3, bytes, (size_t *)out),
+        nms_apply_lines(board, NULL, 1, bytes, (size_t *)out),
+        nms_apply_lines(board, "X,N", 3, NULL, (size_t *)out),
+        nms_apply_lines(board, "X,N", 3, bytes, NULL),
         nms_best_of(NULL, 0, (nms_best *)out),
         nms_best_of(board, 0, NULL),
         nms_ranked(NULL, 0, 0, 0, (nms_row *)out),
@@ -323,6 +346,9 @@ static void nulls(nms_board *board)
         nms_read_plan(board, "END\n", 4, out_order, NULL),
         nms_opening_of(NULL, 0, (nms_opening *)out),
         nms_opening_of(board, 0, NULL),
+        nms_reduce_view(NULL, NMS_BID, &most, (nms_view *)out),
+        nms_reduce_view((nms_view *)out, NMS_BID, NULL, (nms_view *)out),
+        nms_reduce_view((nms_view *)out, NMS_BID, &most, NULL),
     };
     for (size_t at = 0; at < sizeof codes / sizeof codes[0]; ++at) {
         equals(codes[at], NMS_NULL, "a null pointer");
@@ -350,6 +376,11 @@ static void empties(nms_board *board)
     equals(nms_apply_all(board, NULL, 0, applied), NMS_OK, "no changes");
     equals(*applied, 0, "how many of none were applied");
     equals(nms_apply_text(board, NULL, 0), NMS_L1_UNKNOWN_KIND, "an empty record");
+    size_t *place_after = filled(0, sizeof *place_after, 0x5A);
+    equals(nms_apply_lines(&closed, NULL, 0, applied, place_after), NMS_CLOSED, "no lines on a closed board");
+    equals(is_filled(place_after, sizeof *place_after, 0x5A), 1, "the place after them");
+    equals(nms_apply_lines(board, NULL, 0, applied, place_after), NMS_OK, "no lines");
+    equals(*applied == 0 && *place_after == 0, 1, "how far no lines came");
     equals(nms_find_part(board, NULL, 0, out), NMS_NO_PART, "a participant with no name");
     equals(nms_find_sym(board, NULL, 0, (uint16_t *)out), NMS_NO_SYM, "a symbol with no name");
     equals(nms_read_plan(board, NULL, 0, order, plan), NMS_L11_BAD_PLAN_TEXT, "a plan of no text");
@@ -474,6 +505,37 @@ static void changes(nms_board *board)
     equals(after.applied - before.applied, 1, "changes on the board");
     equals(nms_apply_all(board, copied(0, many, 0), 0, applied), NMS_OK, "an empty array");
     equals(*applied, 0, "changes applied of none");
+
+    /* Likewise with the best rows after each, in an array that ends where the answers do. */
+    nms_best *best = filled(1, 3 * sizeof *best, 0x5A), single;
+    equals(nms_apply_best(board, copied(0, many, sizeof many), 3, best, applied), NMS_NO_PART, "the best after each of three changes");
+    equals(*applied, 1, "changes applied before the one that is refused");
+    nms_best_of(board, 0, &single);
+    equals(memcmp(&best[0], &single, sizeof single) == 0, 1, "the best after the first");
+    equals(is_filled(&best[1], 2 * sizeof *best, 0x5A), 1, "nothing is written after it");
+    many[1] = many[2];
+    many[1].kind = NMS_WITHDRAW;
+    many[1].sym = 9;
+    equals(nms_apply_best(board, copied(0, many, sizeof many), 3, best, applied), NMS_NO_SYM, "a withdrawal that names no symbol");
+    nms_counts_of(board, &before);
+    equals(before.applied - after.applied, 2, "it is not applied");
+    equals(nms_apply_best(board, NULL, 0, NULL, applied), NMS_OK, "no changes, and no place");
+    equals(*applied, 0, "the best after none");
+    const uint16_t syms[3] = { 0, 9, 0 };
+    best = filled(1, 3 * sizeof *best, 0x5A);
+    equals(nms_best_all(board, copied(0, syms, sizeof syms), 3, best, applied), NMS_NO_SYM, "the best of symbols, the second of which is strange");
+    nms_best_of(board, 0, &single);
+    equals(*applied == 1 && memcmp(&best[0], &single, sizeof single) == 0, 1, "the best of the first");
+    equals(is_filled(&best[1], 2 * sizeof *best, 0x5A), 1, "nothing is written of the others");
+    equals(nms_best_all(board, NULL, 0, NULL, applied), NMS_OK, "the best of no symbols");
+    nms_order orders[2] = { buy(0, 100, 100000), buy(0, 0, 100000) };
+    nms_plan *plans = filled(1, 2 * sizeof *plans, 0x5A), alone;
+    memset(&alone, 0, sizeof alone);
+    equals(nms_plan_all(board, copied(0, orders, sizeof orders), 2, plans, applied), NMS_RANGE, "plans of orders, the second of which is wrong");
+    equals(nms_plan_order(board, &orders[0], &alone), NMS_OK, "the first by itself");
+    equals(*applied == 1 && memcmp(&plans[0], &alone, sizeof alone) == 0, 1, "the plan of the first");
+    equals(is_filled(&plans[1], sizeof *plans, 0x5A), 1, "nothing is written of the second");
+    equals(nms_plan_all(board, NULL, 0, NULL, applied), NMS_OK, "plans of no orders");
 }
 
 static void order_gives(nms_order order, uint32_t wanted, const char *what)
@@ -768,22 +830,90 @@ static void records(nms_board *board)
             code = nms_apply_text(board, text, bytes);
             nms_counts_of(board, &after);
             equals(requests, asked, "requests for memory of a record");
-            equals(code == NMS_OK || code == NMS_FULL || (code >= 101 && code <= 108), 1, "a record with a byte altered");
+            equals(code == NMS_OK || (code >= 101 && code <= 108), 1, "a record with a byte altered");
             if (code == NMS_OK)
                 equals(after.applied, counts.applied + 1, "changes of an applied record");
             else
                 equals(state_of(board), now, "the board after a refused record");
-            /* The tape is short: begin anew before it is full. */
-            if (after.room < 10) {
-                nms_close(board);
-                open_board(board);
-            }
         }
 }
 
-/* ---- a full tape ---- */
+/* ---- many records as one text ---- */
 
-static void full(void)
+/* A text of lines does what its records do one after another, up to the first that is refused, and says where that one begins. */
+static void lines(nms_board *board)
+{
+    static const struct { const char *text; uint32_t code; size_t applied, at; } texts[] = {
+        { "", NMS_OK, 0, 0 }, { "X,N", NMS_OK, 1, 3 }, { "X,N\n", NMS_OK, 1, 4 }, { "X,N\r\n", NMS_OK, 1, 5 },
+        { "X,N\nX,P", NMS_OK, 2, 7 }, { "X,N\r\nX,P\r\n", NMS_OK, 2, 10 }, { "Q,N,ABC,A,9.99,200,10.00,300\nX,P\nX,Y\n", NMS_OK, 3, 37 },
+        { "\n", NMS_L1_UNKNOWN_KIND, 0, 0 }, { "\nX,N", NMS_L1_UNKNOWN_KIND, 0, 0 }, { "\r\n", NMS_L1_UNKNOWN_KIND, 0, 0 },
+        { "X,N\n\n", NMS_L1_UNKNOWN_KIND, 1, 4 }, { "X,N\r\n\r\nX,N", NMS_L1_UNKNOWN_KIND, 1, 5 }, { "X,N\n\nX,N", NMS_L1_UNKNOWN_KIND, 1, 4 },
+        { "X,N\r", NMS_L3_UNKNOWN_PARTICIPANT, 0, 0 }, { "X,N\r\r\n", NMS_L3_UNKNOWN_PARTICIPANT, 0, 0 },
+        { "X,N\rX,P\n", NMS_L2_FIELD_COUNT, 0, 0 }, { "X,N\nX,P\r", NMS_L3_UNKNOWN_PARTICIPANT, 1, 4 },
+        { "X,N\nX,NONE\nX,P\n", NMS_L3_UNKNOWN_PARTICIPANT, 1, 4 }, { "F\nX,N\n", NMS_L1_UNKNOWN_KIND, 0, 0 },
+        { "X,N\nR,ABC,0", NMS_L14_BAD_LOT, 1, 4 },
+    };
+    for (size_t which = 0; which < sizeof texts / sizeof texts[0]; ++which) {
+        const size_t bytes = strlen(texts[which].text);
+        size_t *applied = filled(1, sizeof *applied, 0x5A), *at = filled(2, sizeof *at, 0x5A);
+        nms_counts counts, after;
+        const unsigned long asked = requests;
+        nms_counts_of(board, &counts);
+        equals(nms_apply_lines(board, copied(0, texts[which].text, bytes), bytes, applied, at), texts[which].code, texts[which].text);
+        equals(*applied, texts[which].applied, texts[which].text);
+        equals(*at, texts[which].at, texts[which].text);
+        nms_counts_of(board, &after);
+        equals(after.applied, counts.applied + texts[which].applied, "changes of lines that were applied");
+        equals(requests, asked, "requests for memory of lines");
+    }
+
+    /* A long line is refused where it stands, whatever its length. */
+    static char longest[70000];
+    for (size_t size = 254; size <= 257; ++size) {
+        size_t *applied = filled(1, sizeof *applied, 0x5A), *at = filled(2, sizeof *at, 0x5A);
+        memset(longest, 'N', sizeof longest);
+        memcpy(longest, "X,N\nX,", 6);
+        longest[4 + size] = '\n';
+        equals(nms_apply_lines(board, copied(0, longest, sizeof longest), sizeof longest, applied, at),
+               size > 255 ? NMS_RANGE : NMS_L3_UNKNOWN_PARTICIPANT, "a long line");
+        equals(*applied == 1 && *at == 4, 1, "where a long line begins");
+    }
+    memset(longest, 'N', sizeof longest);
+    equals(nms_apply_lines(board, copied(0, longest, sizeof longest), sizeof longest, filled(1, sizeof(size_t), 0), filled(2, sizeof(size_t), 0)),
+           NMS_RANGE, "one line of 70,000 bytes");
+
+    /* Lines with each byte made each other byte, beside their records, which are applied one after another. */
+    static const char whole[] = "Q,N,ABC,A,9.99,300,10.00,300\r\nX,P\nR,ABC,40";
+    for (size_t place = 0; place < sizeof whole - 1; ++place)
+        for (int byte = 0; byte < 256; ++byte) {
+            const size_t bytes = sizeof whole - 1;
+            size_t *applied = filled(1, sizeof *applied, 0x5A), *at = filled(2, sizeof *at, 0x5A), from = 0, many = 0;
+            char *text = copied(0, whole, bytes);
+            nms_counts counts, after;
+            uint32_t code = NMS_OK, single = NMS_OK;
+            text[place] = (char)byte;
+            nms_counts_of(board, &counts);
+            code = nms_apply_lines(board, text, bytes, applied, at);
+            nms_counts_of(board, &after);
+            equals(after.applied, counts.applied + *applied, "changes of lines with a byte altered");
+            while (from < bytes && single == NMS_OK) {
+                const char *end = memchr(text + from, '\n', bytes - from);
+                const size_t size = end == NULL ? bytes - from : (size_t)(end - text) + 1 - from;
+                single = nms_apply_text(board, text + from, size);
+                if (single == NMS_OK) {
+                    from += size;
+                    ++many;
+                }
+            }
+            equals(code, single, "the code of lines with a byte altered");
+            equals(*applied == many && *at == from, 1, "how far lines with a byte altered came");
+        }
+}
+
+/* ---- a short tape ---- */
+
+/* The library keeps no tape: a board takes more changes than its setup's tape_limit, and its counts say so. */
+static void limits(void)
 {
     static const char small[] =
         "tape_limit = 3\nqueue = 2\ndesks = 1\n[[participant]]\nname = \"N\"\nfeed = \"A\"\nfee = 0\nrate = 0\n"
@@ -791,17 +921,19 @@ static void full(void)
     nms_board board = NMS_BOARD_CLOSED;
     nms_change change = quote(0, 0, 99900, 1, 100000, 1), stranger = quote(1, 0, 99900, 1, 100000, 1);
     nms_change many[4] = { change, change, change, change };
+    nms_counts counts;
     size_t applied;
     equals(nms_open(small, sizeof small - 1, &board), NMS_OK, "a setup of three changes");
-    equals(nms_apply_all(&board, many, 4, &applied), NMS_FULL, "four changes on it");
-    equals(applied, 3, "changes applied before the tape is full");
-    for (int again = 0; again < 3; ++again) {
-        const unsigned long before = state_of(&board);
-        equals(nms_apply(&board, &change), NMS_FULL, "a change on a full tape");
-        equals(nms_apply_text(&board, "X,N", 3), NMS_FULL, "a record on a full tape");
-        equals(nms_apply(&board, &stranger), NMS_NO_PART, "the least code on a full tape");
-        equals(nms_apply_text(&board, "X,P", 3), NMS_L3_UNKNOWN_PARTICIPANT, "a bad record on a full tape");
-        equals(state_of(&board), before, "a full tape");
+    equals(nms_apply_all(&board, many, 4, &applied), NMS_OK, "four changes on it");
+    equals(applied, 4, "how many were applied");
+    for (unsigned long again = 0; again < 3; ++again) {
+        equals(nms_apply(&board, &change), NMS_OK, "a change beyond tape_limit");
+        equals(nms_apply_text(&board, "X,N", 3), NMS_OK, "a record beyond tape_limit");
+        equals(nms_apply(&board, &stranger), NMS_NO_PART, "a stranger's change beyond tape_limit");
+        equals(nms_apply_text(&board, "X,P", 3), NMS_L3_UNKNOWN_PARTICIPANT, "a bad record beyond tape_limit");
+        equals(nms_counts_of(&board, &counts), NMS_OK, "the counts");
+        equals(counts.applied, 6 + 2 * again, "changes beyond tape_limit");
+        equals(counts.room, (1ul << 63) - counts.applied, "how many more may be applied");
     }
     nms_close(&board);
 }
@@ -912,6 +1044,31 @@ static void scatter(void *at, size_t size)
 }
 
 /* Every struct, in and out, ends at a page that can't be touched. */
+/* Fewer shares of what a board shows, again of what is left, and of numbers that were altered. */
+static void reduce(nms_board *board, uint16_t sym, uint8_t side)
+{
+    nms_view *view = filled(0, sizeof *view, 0), *left = filled(1, sizeof *left, 0x5A);
+    uint32_t *most = filled(2, NMS_MOST_PARTS * sizeof *most, 0), code;
+    scatter(most, NMS_MOST_PARTS * sizeof *most);
+    for (unsigned at = 0; at < NMS_MOST_PARTS; ++at)
+        most[at] %= draw() % 3 ? 1000 : UINT32_MAX;
+    /* Of a strange symbol the numbers are all 0, as those of a board with nothing on it. */
+    nms_view_of(board, sym, view);
+    code = nms_reduce_view(view, side, most, left);
+    equals(code, side <= NMS_OFFER ? NMS_OK : NMS_RANGE, "fewer shares of a random board");
+    if (code == NMS_OK) {
+        nms_view *again = filled(3, sizeof *again, 0x5A);
+        view = copied(0, left, sizeof *left);
+        equals(nms_reduce_view(view, side, most, again), NMS_OK, "fewer shares of what is left");
+        equals(memcmp(again, left, sizeof *left) == 0, 1, "what is left stays");
+    }
+    ((unsigned char *)view)[draw() % sizeof *view] ^= (unsigned char)(1u << draw() % 8);
+    left = filled(1, sizeof *left, 0x5A);
+    code = nms_reduce_view(view, side, most, left);
+    equals(code == NMS_OK || code == NMS_NO_VIEW || (code == NMS_RANGE && side > NMS_OFFER), 1, "fewer shares of altered numbers");
+    equals(code == NMS_OK || is_filled(left, sizeof *left, 0x5A), 1, "what a refused call wrote");
+}
+
 static void random_bytes(unsigned long rounds)
 {
     nms_board board;
@@ -943,7 +1100,7 @@ static void random_bytes(unsigned long rounds)
             change->offer_shares %= 3000;
         }
         code = nms_apply(&board, change);
-        equals(code == NMS_OK || (code >= NMS_RANGE && code <= NMS_FULL), 1, "a random change");
+        equals(code == NMS_OK || (code >= NMS_RANGE && code <= NMS_NO_SYM), 1, "a random change");
         applied += code == NMS_OK;
         order = filled(0, sizeof *order, 0);
         scatter(order, sizeof *order);
@@ -977,6 +1134,9 @@ static void random_bytes(unsigned long rounds)
         nms_rows_of(&board, sym, side, filled(3, sizeof(nms_rows), 0x5A));
         nms_view_of(&board, sym, filled(3, sizeof(nms_view), 0x5A));
         nms_traded_through(&board, sym, draw() % 9 ? draw() % 20000000 : draw(), filled(3, sizeof(nms_through), 0x5A));
+        reduce(&board, sym, side);
+        order = filled(0, sizeof *order, 0);
+        plan = filled(1, sizeof *plan, 0x5A);
         nms_opening_of(&board, sym, filled(3, sizeof(nms_opening), 0x5A));
         nms_unit_cost(&board, (uint8_t)(draw() % 6), side, draw() % 9 ? draw() % 200000 : draw(), filled(3, sizeof(int64_t), 0x5A));
         nms_counts_of(&board, filled(3, sizeof(nms_counts), 0x5A));
@@ -984,10 +1144,17 @@ static void random_bytes(unsigned long rounds)
         text = filled(3, bytes, 0);
         scatter(text, bytes);
         nms_apply_text(&board, text, bytes);
+        {
+            size_t *many = filled(1, sizeof *many, 0), *at = filled(2, sizeof *at, 0);
+            nms_apply_lines(&board, text, bytes, many, at);
+            equals(*many <= *at && *at <= bytes, 1, "how far random lines came");
+        }
+        plan = filled(1, sizeof *plan, 0x5A);
         nms_read_plan(&board, text, bytes, order, plan);
         equals(requests, from, "requests for memory of calls on an open board");
         nms_counts_of(&board, &counts);
-        if (counts.room < 2) {
+        /* A new board now and then, so that sides are empty at times. */
+        if (counts.applied >= 1000) {
             nms_close(&board);
             open_board(&board);
         }
@@ -1028,8 +1195,9 @@ int main(int count, char **words)
     plans(&board);
     equals(requests, from, "requests for memory of calls on an open board");
     records(&board);
+    lines(&board);
     equals(nms_close(&board), NMS_OK, "a close");
-    full();
+    limits();
     setups();
     memory();
     random_bytes(count > 2 ? strtoul(words[2], NULL, 10) : 20000);

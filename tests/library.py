@@ -1,6 +1,6 @@
 #!/usr/bin/env python3
 """Tests the library for other languages, as a part of the gate: its header against its archive, its four callers, its wrappers,
-looks that run together, views as values, a hostile caller, and its answers beside the program's.
+looks that run together, views as values, changes without end, a hostile caller, and its answers beside the program's.
 
     tests/library.py PROGRAM        PROGRAM is nms_tool, which the gate has built
     NMS_OUT=FOLDER tests/library.py PROGRAM      takes libnms.a and libnms.so from there, and builds nothing
@@ -179,7 +179,7 @@ class Library:
             lacks = [name for name in names if not re.search(form.format(name), text)]
             check(f"{wrapper} has each call", not lacks, lacks)
         looks = [name for _, name, arguments in calls if "const nms_board *" in arguments]
-        check("nms.h has 33 calls, and 14 are looks", (len(calls), len(looks)) == (33, 14), looks)
+        check("nms.h has 38 calls, and 16 are looks", (len(calls), len(looks)) == (38, 16), looks)
         if not self.cc:
             skip("the header in C", "C compiler")
             return
@@ -265,6 +265,21 @@ class Library:
             environment = {**os.environ, "TSAN_OPTIONS": "exitcode=99"}
             counted("views between threads, under the thread sanitizer", [f"{self.room}/shared-tsan", setup, "2000"], env=environment)
 
+    def rolling(self):
+        """More changes than one board counts, beside a plain model: 30,000,000 in 300 symbols."""
+        if not self.cc:
+            skip("changes without end", "C compiler")
+            return
+        setup = f"{self.room}/rolling.toml"
+        with open(setup, "w", encoding="ascii") as to:
+            to.write("tape_limit = 3\nqueue = 2\ndesks = 1\n")
+            for part in "NPYZABCD":
+                to.write(f'[[participant]]\nname = "{part}"\nfeed = "A"\nfee = {ord(part)}000\nrate = {ord(part)}\n')
+            for sym in range(300):
+                to.write(f'[[symbol]]\nname = "S{sym}"\nlot = 100\n')
+        if built("tests/rolling.c is built", self.c("tests/rolling.c", "rolling", "-O2", "-pedantic")):
+            counted("changes without end", [f"{self.room}/rolling", setup])
+
     def wrappers(self):
         """The wrappers' own tests: wrong arguments, and what an error names."""
         setup = f"{TOP}/examples/builtin.toml"
@@ -307,7 +322,7 @@ class Library:
         status, said = run(["cargo", "build", *words, "--example", "trade"], env=environment)
         if check("rust/nms is built", status == 0 and not said, said):
             prints("the caller in Rust", [f"{folder}/made/debug/examples/trade", setup], "rust/nms/examples/trade.out")
-        for what, tests, many in (("the example on the first page", ["--doc"], 1), ("each call", ["--test", "calls"], 5)):
+        for what, tests, many in (("the example on the first page", ["--doc"], 1), ("each call", ["--test", "calls"], 6)):
             status, said = run(["cargo", "test", *words, *tests], env=environment)
             check(f"{what} of rust/nms", status == 0 and f"{many} passed" in said, said)
 
@@ -378,6 +393,7 @@ def main(program):
             library.readers()
             library.views()
             library.between_threads()
+            library.rolling()
             library.wrappers()
             library.callers(program)
             library.page(program)

@@ -4,7 +4,9 @@
 //     owner SETUP     the built-in setup; prints a line for each difference, and last `N passed, M failed`
 #include <nms.hpp>
 
+#include <array>
 #include <cstdio>
+#include <cstring>
 #include <fstream>
 #include <iterator>
 
@@ -74,8 +76,20 @@ void views(const nms::Terms &terms, const nms_view &view, const nms_order &order
     const auto doubt = terms.doubt(view, order, other);
     holds(doubt && doubt->doubt == 1 && doubt->breach == 1, "a plan of another version on a view");
     holds(nms::through(view, 10010000).offers == 1 && nms::through(view, 10000000).offers == 0, "what a price trades through on a view");
+    std::array<std::uint32_t, NMS_MOST_PARTS> most;
+    most.fill(UINT32_MAX);
+    const nms_view whole = nms::reduced(view, NMS_OFFER, most);
+    holds(std::memcmp(&whole, &view, sizeof view) == 0, "a view of which nothing is taken");
+    most[view.offer.part[0]] = 40;
+    const nms_view left = nms::reduced(view, NMS_OFFER, most);
+    const nms_plan fewer = terms.plan(left, order);
+    holds(left.offer.total + view.offer.size[0] == view.offer.total + 40 && !terms.doubt(left, order, fewer), "a plan on what is left");
+    for (std::uint32_t at = 0; at < fewer.legs; ++at)
+        holds(fewer.leg[at].shares <= most[fewer.leg[at].part], "a leg of what is left");
+    throws(NMS_RANGE, "a number is out of its range", [&] { nms::reduced(view, static_cast<nms_side>(2), most); });
     nms_view torn = view;
     torn.offer.total += 1;
+    throws(NMS_NO_VIEW, "no look shows such a view", [&] { nms::reduced(torn, NMS_OFFER, most); });
     throws(NMS_NO_VIEW, "no look shows such a view", [&] { terms.plan(torn, order); });
     throws(NMS_NO_VIEW, "no look shows such a view", [&] { terms.doubt(torn, order, plan); });
     throws(NMS_NO_VIEW, "no look shows such a view", [&] { nms::through(torn, 10010000); });
@@ -150,12 +164,27 @@ void codes(nms::Board &board, const nms_order &order)
     }
     changes[1].kind = 4;
     const std::uint64_t before = board.counts().applied;
-    const nms::Applied some = board.try_apply(changes, 3);
+    const nms::Done some = board.try_apply(changes, 3);
     holds(some.count == 1 && some.code == NMS_RANGE && board.counts().applied == before + 1, "changes up to the first that is refused");
-    const nms::Applied none = board.try_apply(nullptr, 0);
+    const nms::Done none = board.try_apply(nullptr, 0);
     holds(none.count == 0 && none.code == NMS_OK, "no changes");
+    nms_best best[3]{};
+    const nms::Done followed = board.try_apply(changes, 3, best);
+    holds(followed.count == 1 && followed.code == NMS_RANGE && best[0].version == before + 2 && best[1].version == 0, "the best after each change");
+    const std::uint16_t syms[] = { 1, 0, 999 };
+    const nms::Done looked = board.try_best(syms, 3, best);
+    holds(looked.count == 2 && looked.code == NMS_NO_SYM && best[1].offer.price == board.best(0).offer.price, "the best of many symbols");
+    nms_order orders[] = { order, order };
+    orders[1].shares = 0;
+    nms_plan plans[2]{};
+    const nms::Done planned = board.try_plan(orders, 2, plans);
+    holds(planned.count == 1 && planned.code == NMS_RANGE && plans[0].filled == board.plan(order).filled, "plans of many orders");
+    holds(board.try_plan(nullptr, 0, nullptr).code == NMS_OK && board.try_best(nullptr, 1, best).code == NMS_NULL, "no orders, and null pointers");
     holds(board.try_apply(changes[0]) == NMS_OK && board.try_apply(changes[1]) == NMS_RANGE, "a change by a code");
     holds(board.try_apply("Q,P,ABC,A,,,,") == NMS_OK && board.try_apply("Q,P,ABC,X,,,,") == NMS_L5_BAD_STATE, "a record by a code");
+    const nms::DoneLines lines = board.try_apply_lines("S,P,ABC,A\r\nX,P\nX,XYZ\nX,P");
+    holds(lines.count == 2 && lines.code == NMS_L3_UNKNOWN_PARTICIPANT && lines.at == 15, "lines up to the first that is refused");
+    holds(board.try_apply_lines("X,P").at == 3 && board.try_apply_lines({}).code == NMS_OK, "a line without an end, and no lines");
     const nms_plan plan = board.plan(order);
     const auto said = board.read(board.text(order, plan));
     holds(said.first.limit == order.limit && said.second.filled == plan.filled && !board.doubt(said.first, said.second), "a plan read from its text");

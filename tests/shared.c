@@ -6,7 +6,9 @@
  *   - A view of version v shows what the board shows up to the version that was published when it was read.
  *   - An older view, a symbol that is not there, a symbol of which nothing was published, and memory of another header are refused.
  *
- *     shared SETUP [CHANGES]      the built-in setup; 20,000 changes by default. Built with -fsanitize=thread it shows races
+ *     shared SETUP [CHANGES [READERS [SEED]]]      the built-in setup; 20,000 changes and three readers, at most eight, by default
+ *
+ * Built with -fsanitize=thread it shows races.
  *
  * Prints the first differences, and last `N passed, M failed`.
  */
@@ -17,7 +19,7 @@
 #include <stdlib.h>
 #include <string.h>
 
-enum { READERS = 3, SYMS = 2, PARTS = 4, MOST_KEPT = 40000 };
+enum { MOST_READERS = 8, SYMS = 2, PARTS = 4, MOST_KEPT = 40000 };
 
 /* What a reader did: the version that was published, the view that it read then, and its plan for an order. */
 struct kept {
@@ -32,10 +34,11 @@ static nms_board board = NMS_BOARD_CLOSED, again = NMS_BOARD_CLOSED;
 static nms_terms terms = NMS_TERMS_CLOSED;
 static nms_shared *shared;
 static nms_change *changes;
+static uint64_t first_seed = 5;
 static unsigned long wanted = 20000, taken, passed, failed;
-static int is_over;
-static struct kept *kept[READERS];
-static unsigned long counts[READERS], fallen[READERS], doubted[READERS], strange[READERS], looks[READERS];
+static int is_over, readers = 3;
+static struct kept *kept[MOST_READERS];
+static unsigned long counts[MOST_READERS], fallen[MOST_READERS], doubted[MOST_READERS], strange[MOST_READERS], looks[MOST_READERS];
 
 static unsigned drawn(uint64_t *seed, unsigned below)
 {
@@ -83,7 +86,7 @@ static nms_order draw_order(uint64_t *seed, uint16_t sym)
 static void *reads(void *given)
 {
     const int me = (int)(size_t)given;
-    uint64_t seed = 77 + (unsigned)me, last[SYMS] = { 0 };
+    uint64_t seed = first_seed + 72 + (unsigned)me, last[SYMS] = { 0 };
     while (!__atomic_load_n(&is_over, __ATOMIC_ACQUIRE)) {
         struct kept one = { 0 };
         const uint16_t sym = (uint16_t)drawn(&seed, SYMS);
@@ -196,10 +199,14 @@ int main(int count, char **words)
     static char setup[1 << 16];
     FILE *file = count > 1 ? fopen(words[1], "rb") : NULL;
     const size_t bytes = file ? fread(setup, 1, sizeof setup, file) : 0;
-    pthread_t thread[READERS];
-    uint64_t seed = 5;
+    pthread_t thread[MOST_READERS];
     if (count > 2)
         wanted = strtoul(words[2], NULL, 10);
+    if (count > 3)
+        readers = atoi(words[3]) < 1 || atoi(words[3]) > MOST_READERS ? MOST_READERS : atoi(words[3]);
+    if (count > 4)
+        first_seed = strtoul(words[4], NULL, 10);
+    uint64_t seed = first_seed;
     const size_t room = nms_shared_bytes(SYMS);
     changes = calloc(wanted, sizeof *changes);
     void *memory = calloc(1, room);
@@ -207,7 +214,7 @@ int main(int count, char **words)
         || nms_terms_open(setup, bytes, &terms) || nms_shared_open(memory, room, SYMS, &shared))
         return 2;
     refused();
-    for (int each = 0; each < READERS; each++) {
+    for (int each = 0; each < readers; each++) {
         kept[each] = calloc(MOST_KEPT, sizeof(struct kept));
         if (!kept[each] || pthread_create(&thread[each], NULL, reads, (void *)(size_t)each))
             return 2;
@@ -220,7 +227,7 @@ int main(int count, char **words)
     }
     __atomic_store_n(&is_over, 1, __ATOMIC_RELEASE);
     holds(unpublished == 0, "each change is published");
-    for (int each = 0; each < READERS; each++) {
+    for (int each = 0; each < readers; each++) {
         pthread_join(thread[each], NULL);
         holds(fallen[each] == 0, "a version fell");
         holds(strange[each] == 0, "a view of another symbol");

@@ -136,6 +136,19 @@ int main(int count, char **words)
     changes[2] = (nms_change){ .sym = 1, .lot = 7, .kind = NMS_LOT };
     holds(nms_apply_all(&board, changes, 3, &applied) == NMS_OK && applied == 3, "three changes are applied");
 
+    /* Two counts of a call on lines, in the order of its arguments: how many were applied, and the byte where the next line begins. */
+    {
+        const char lines[] = "S,Y,ABC,A\r\nX,NONE\n";
+        room one, other;
+        size_t *out = room_of(&one, sizeof *out, 0x5A), *out_at = room_of(&other, sizeof *out_at, 0x5A);
+        nms_board fresh = NMS_BOARD_CLOSED;
+        holds(nms_open(setup, bytes, &fresh) == NMS_OK && nms_apply_lines(&fresh, lines, sizeof lines - 1, out, out_at) == NMS_L3_UNKNOWN_PARTICIPANT &&
+                  *out == 1 && *out_at == 11 && guards_hold(&one) && guards_hold(&other), "nms_apply_lines: applied, at");
+        nms_close(&fresh);
+        free(one.whole);
+        free(other.whole);
+    }
+
     nms_best best;
     holds(nms_best_of(&board, 1, &best) == NMS_OK && best.version == 3, "nms_best: version");
     holds(best.bid.price == 100001 && best.offer.price == 100203, "nms_change: bid_price, offer_price; nms_row: price");
@@ -176,7 +189,7 @@ int main(int count, char **words)
     holds(nms_traded_through(&board, 1, 10081100, &through) == NMS_OK && through.offers == 0 && nms_traded_through(&board, 1, 10081101, &through) == NMS_OK &&
               through.offers == 1, "nms_traded_through: an offer at the price");
     nms_counts counts;
-    holds(nms_counts_of(&board, &counts) == NMS_OK && counts.applied == 3 && counts.room == 997 && counts.parts == 4 && counts.syms == 2,
+    holds(nms_counts_of(&board, &counts) == NMS_OK && counts.applied == 3 && counts.room == (UINT64_C(1) << 63) - 3 && counts.parts == 4 && counts.syms == 2,
           "nms_counts");
     nms_opening opening;
     holds(nms_opening_of(&board, 1, &opening) == NMS_OK && opening.count == 3, "nms_opening: a lot and two quotations");
@@ -236,6 +249,26 @@ int main(int count, char **words)
     WRITES(nms_plan, nms_plan_view(&terms, &view, &order, out));
     WRITES(nms_doubt, nms_confirm_view(&terms, &view, &order, &plan, out));
     WRITES(nms_through, nms_through_view(&view, 10090000, out));
+
+    /* A view with fewer shares: each number of the array is read, and no more of them than there are participants. */
+    {
+        room one;
+        uint32_t *most = room_of(&one, NMS_MOST_PARTS * sizeof(uint32_t), 0xFF);
+        nms_view left;
+        most[2] = 405;
+        most[3] = 708;
+        WRITES(nms_view, nms_reduce_view(&view, NMS_OFFER, most, out));
+        holds(nms_reduce_view(&view, NMS_OFFER, most, &left) == NMS_OK && left.version == 3 && left.sym == 1 && left.market == NMS_NORMAL &&
+                  left.offer.count == 2 && left.offer.total == 405 + 708 && left.offer.size[0] == 405 && left.offer.size[1] == 708 &&
+                  left.offer.price[1] == 100811 && left.offer.part[1] == 3 && left.offer.receipt[1] == 2 && left.offer.is_protected[1] == 1,
+              "nms_reduce_view: the offers");
+        holds(memcmp(&left.bid, &view.bid, sizeof left.bid) == 0, "nms_reduce_view: the other side stays");
+        most[2] = 0;
+        holds(nms_reduce_view(&view, NMS_BID, most, &left) == NMS_OK && left.bid.count == 1 && left.bid.total == 708 &&
+                  left.bid.size[0] == 708 && left.bid.price[0] == 99009 && left.bid.size[1] == 0, "nms_reduce_view: the bids");
+        holds(guards_hold(&one), "nms_reduce_view only reads the numbers");
+        free(one.whole);
+    }
     WRITES(uint8_t, nms_terms_find_part(&terms, "Y", 1, out));
     WRITES(uint16_t, nms_terms_find_sym(&terms, "PNY", 3, out));
     holds(nms_terms_close(&terms) == NMS_OK, "terms are closed");

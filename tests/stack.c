@@ -44,7 +44,7 @@ static nms_doubt doubt;
 static char text[TEXT], out[NMS_PLAN_TEXT_ROOM];
 static size_t bytes, out_bytes, applied;
 static nms_change change;
-static uint32_t code;
+static uint32_t code, many[NMS_MOST_PARTS];
 static union {
     nms_best best;
     nms_row row;
@@ -71,7 +71,11 @@ static void nms_part_name_(void) { code = nms_part_name(&board, 31, out, sizeof 
 static void nms_sym_name_(void) { code = nms_sym_name(&board, 0, out, sizeof out, &out_bytes); }
 static void nms_apply_(void) { code = nms_apply(&board, &change); }
 static void nms_apply_all_(void) { code = nms_apply_all(&board, &change, 1, &applied); }
+static void nms_apply_best_(void) { code = nms_apply_best(&board, &change, 1, &it.best, &applied); }
+static void nms_best_all_(void) { code = nms_best_all(&board, &change.sym, 1, &it.best, &applied); }
+static void nms_plan_all_(void) { code = nms_plan_all(&board, &order, 1, &plan, &applied); }
 static void nms_apply_text_(void) { code = nms_apply_text(&board, text, bytes); }
+static void nms_apply_lines_(void) { code = nms_apply_lines(&board, text, bytes, &applied, &out_bytes); }
 static void nms_best_of_(void) { code = nms_best_of(&board, 0, &it.best); }
 static void nms_ranked_(void) { code = nms_ranked(&board, 0, NMS_BID, 31, &it.row); }
 static void nms_rows_of_(void) { code = nms_rows_of(&board, 0, NMS_OFFER, &it.rows); }
@@ -92,6 +96,7 @@ static void nms_terms_sym_name_(void) { code = nms_terms_sym_name(&terms, 0, out
 static void nms_plan_view_(void) { code = nms_plan_view(&terms, &view, &order, &plan); }
 static void nms_confirm_view_(void) { code = nms_confirm_view(&terms, &view, &order, &plan, &doubt); }
 static void nms_through_view_(void) { code = nms_through_view(&view, 9900000, &it.through); }
+static void nms_reduce_view_(void) { code = nms_reduce_view(&view, NMS_OFFER, many, &it.view); }
 
 /* Measures a call, and ends the program if it was refused and may not be. */
 static void takes(const char *name, void (*call)(void), int may_be_refused)
@@ -166,16 +171,21 @@ static void every_setup(const char *name, void (*call)(void), const char *setup,
     printf("%s %zu\n", name, most - empty);
 }
 
-/* A setup of 32 participants, and a board with a quotation of each on both sides. */
-static void fill_board(void)
+/* A setup of 32 participants. */
+static void write_setup(void)
 {
     bytes = (size_t)sprintf(text, "tape_limit = 1000\nqueue = 9\ndesks = 1\n");
     for (unsigned at = 0; at < NMS_MOST_PARTS; ++at)
         bytes += (size_t)sprintf(text + bytes, "[[participant]]\nname = \"P%02u\"\nfeed = \"A\"\nfee = %u\nrate = -%u\n", at, at * 1000, at);
     bytes += (size_t)sprintf(text + bytes, "[[symbol]]\nname = \"ABCDEFGH\"\nlot = 100\n");
-    code = nms_terms_open(text, bytes, &terms);
-    code = code == NMS_OK ? nms_open(text, bytes, &board) : code;
-    change.sym = 0;
+}
+
+/* A board with a quotation of each participant on both sides. */
+static void fill_board(void)
+{
+    write_setup();
+    code = nms_open(text, bytes, &board);
+    memset(&change, 0, sizeof change);
     for (unsigned at = 0; at < 2 * NMS_MOST_PARTS && code == NMS_OK; ++at) {
         change.part = (uint8_t)(at % NMS_MOST_PARTS);
         change.bid_price = 90000 + 11 * at;
@@ -190,6 +200,18 @@ static void fill_board(void)
         printf("DIFFERS: the board is not filled: code %u, %u legs\n", (unsigned)code, (unsigned)plan.legs);
         exit(1);
     }
+}
+
+/* The board anew, at the last change before it goes over to its second board: the next one brings that all quotations. */
+static void to_the_brink(void)
+{
+    const nms_change state = { .kind = NMS_STATE, .state = NMS_AUTOMATED };
+    nms_counts counts;
+    nms_close(&board);
+    fill_board();
+    code = nms_counts_of(&board, &counts);
+    for (; code == NMS_OK && counts.applied < 9990000; ++counts.applied)
+        code = nms_apply(&board, &state);
 }
 
 /* TAKES(name) prints the stack of a call that is answered NMS_OK. */
@@ -211,6 +233,9 @@ int main(int count, char **words)
     stack = mmap(NULL, STACK, PROT_READ | PROT_WRITE, MAP_PRIVATE | MAP_ANONYMOUS, -1, 0);
     if (stack == MAP_FAILED)
         return 2;
+    write_setup();
+    if (nms_terms_open(text, bytes, &terms) != NMS_OK)
+        return 2;
     fill_board();
     measure(nothing);
     const size_t empty = most;
@@ -223,8 +248,10 @@ int main(int count, char **words)
     TAKES(nms_sym_name);
     TAKES(nms_apply);
     TAKES(nms_apply_all);
+    TAKES(nms_apply_best);
     change.kind = NMS_WITHDRAW;
     TAKES(nms_apply_all);
+    TAKES(nms_apply_best);
     change.kind = NMS_LOT;
     change.lot = 40;
     TAKES(nms_apply);
@@ -232,7 +259,11 @@ int main(int count, char **words)
     TAKES(nms_apply_text);
     bytes = (size_t)sprintf(text, "Q,P31,ABCDEFGH,A,10.0000,300,9.0000,400");
     TAKES(nms_apply_text);
+    bytes = 0;
+    append("Q,P31,ABCDEFGH,A,9999999.9999,999999999,9999999.9999,999999999\r\nQ,P31,ABCDEFGH,A,10.0000,300,9.0000,400\n", 500);
+    TAKES(nms_apply_lines);
     TAKES(nms_best_of);
+    TAKES(nms_best_all);
     TAKES(nms_ranked);
     TAKES(nms_rows_of);
     TAKES(nms_view_of);
@@ -240,12 +271,16 @@ int main(int count, char **words)
     TAKES(nms_unit_cost);
     TAKES(nms_opening_of);
     TAKES(nms_plan_order);
+    TAKES(nms_plan_all);
     TAKES(nms_confirm);
     if (nms_view_of(&board, 0, &view) != NMS_OK)
         return 2;
     TAKES(nms_plan_view);
     TAKES(nms_confirm_view);
     TAKES(nms_through_view);
+    for (unsigned at = 0; at < NMS_MOST_PARTS; ++at)
+        many[at] = 100 + 7 * at;
+    TAKES(nms_reduce_view);
     TAKES(nms_terms_find_part);
     TAKES(nms_terms_find_sym);
     TAKES(nms_terms_part_name);
@@ -256,6 +291,17 @@ int main(int count, char **words)
     memset(text + bytes, '\n', TEXT - bytes);
     bytes = NMS_PLAN_TEXT_ROOM;
     TAKES(nms_read_plan);
+    to_the_brink();
+    TAKES(nms_apply);
+    to_the_brink();
+    change.kind = NMS_WITHDRAW;
+    TAKES(nms_apply_all);
+    to_the_brink();
+    bytes = (size_t)sprintf(text, "X,P31");
+    TAKES(nms_apply_text);
+    to_the_brink();
+    bytes = (size_t)sprintf(text, "X,P31\nX,P30\n");
+    TAKES(nms_apply_lines);
     every_setup("nms_setup_place", nms_setup_place_, setup, empty);
     every_setup("nms_open", nms_open_, setup, empty);
     every_setup("nms_terms_open", nms_terms_open_, setup, empty);

@@ -80,6 +80,8 @@ def arguments(board):
         refused(f"the record {value!r}", 10, "record", lambda: board.apply_text(value))
         refused(f"the text {value!r}", 10, "text", lambda: board.read(value))
     refused("half a character as a record", 101, "", lambda: board.apply_text("\udc80"))
+    for value in ("X,N", None, 7, bytearray(b"X,N")):
+        refused(f"the lines {value!r}", 10, "text", lambda: board.apply_lines(value))
     for value in (None, order(), ("PLAN",)):
         refused("a plan that is none", 10, "plan", lambda: board.confirm(value))
         refused("a plan that is none", 10, "plan", lambda: board.text(value))
@@ -149,9 +151,23 @@ def changes(setup, board):
             single.apply_text(record)
             check(f"{record} by numbers", bytes(other.view("ABC")) == bytes(single.view("ABC")), other.rows("ABC", nms.Side.BID))
         check("changes at once", other.apply_all([quote, quote._replace(part="P")]) == 2 and other.applied() == 8, other.applied())
-        check("no changes", other.apply_all([]) == 0)
+        check("no changes", other.apply_all([]) == 0 and other.apply_best([]) == [] and other.best_all([]) == [] and other.plan_all([]) == [])
+        followed = other.apply_best([quote, nms.Change(nms.Kind.WITHDRAW, "P", "ABC")])
+        check("the best after each change", [it.version for it in followed] == [9, 10] and followed[1] == other.best("ABC"), followed)
+        check("the best of many symbols", other.best_all(["PNY", "ABC"]) == [other.best("PNY"), other.best("ABC")])
+        check("plans of many orders", [it.legs for it in other.plan_all([order(), order(shares=200)])] == [other.plan(order()).legs, other.plan(order(shares=200)).legs])
+        refused("a withdrawal that names no symbol", 12, "sym", lambda: other.apply_best([nms.Change(nms.Kind.WITHDRAW, "P")]))
+        refused("a strange symbol of many", 12, "sym", lambda: other.best_all(["ABC", "XYZ"]))
+        refused("a wrong order of many", 10, "shares", lambda: other.plan_all([order(), order(shares=0)]))
         refused("a wrong one of some", 12, "sym", lambda: other.apply_all([quote, quote._replace(sym="XYZ")]))
-        check("none of them was applied", other.applied() == 8, other.applied())
+        check("none of them was applied", other.applied() == 10, other.applied())
+        with nms.Board(setup) as lines, nms.Board(setup) as each:
+            text = b"Q,N,ABC,A,9.99,200,10.00,300\r\nQ,P,ABC,A,9.99,200,,\nX,NYSE\nX,P"
+            refused_at("a line in the middle", 103, 2, lambda: lines.apply_lines(text), 51)
+            for record in text.decode().splitlines()[:2]:
+                each.apply_text(record)
+            check("the lines before it stay", bytes(lines.view("ABC")) == bytes(each.view("ABC")), lines.rows("ABC", nms.Side.BID))
+            check("lines at once", (lines.apply_lines(text[58:]), lines.apply_lines(b""), lines.apply_lines(b"X,P\nX,N\n"), lines.applied()) == (1, 0, 2, 5))
         with nms.Board(setup) as later:
             check("an opening", later.apply_all(other.opening("ABC")) > 0)
             check("it shows the same rows", all([it._replace(receipt=0) for it in later.rows("ABC", side)] == [it._replace(receipt=0) for it in other.rows("ABC", side)]
@@ -213,12 +229,23 @@ def views(setup, board):
         check("it is confirmed there", terms.confirm(view, same) is None and board.confirm(same) is None)
         check("names by terms", (terms.part("P"), terms.sym("PNY"), terms.part_name(1), terms.sym_name(1)) == (1, 1, "P", "PNY"))
         check("what a price trades through on a view", terms.through(view, 10_010_000) == board.through("ABC", 10_010_000))
+        left = terms.reduced(view, nms.Side.OFFER, {"N": 40, "P": 0})
+        fewer = terms.plan(left, order())
+        check("a plan on what is left", [(it.part, it.shares) for it in fewer.legs] == [("N", 40)] and terms.confirm(left, fewer) is None, fewer.legs)
+        check("nothing is taken", bytes(terms.reduced(view, nms.Side.BID, {})) == bytes(view))
+        refused("too many shares", 10, "most", lambda: terms.reduced(view, nms.Side.BID, {"N": 2**32}))
+        refused("fewer shares than none", 10, "most", lambda: terms.reduced(view, nms.Side.BID, {"N": -1}))
+        refused("shares of a stranger", 11, "most", lambda: terms.reduced(view, nms.Side.BID, {"NONE": 1}))
+        refused("shares of nobody", 10, "most", lambda: terms.reduced(view, nms.Side.BID, [1]))
+        refused("a side that is none", 10, "side", lambda: terms.reduced(view, 2, {}))
+        refused("what is no view", 10, "view", lambda: terms.reduced(bytes(view), nms.Side.BID, {}))
         refused("a price of none", 10, "millionths", lambda: terms.through(view, 0))
         refused("what is no view", 10, "view", lambda: terms.through(bytes(view), 1))
         torn = bytearray(bytes(view))
         torn[0] ^= 255
         torn[16] ^= 1
         refused("a torn view", 21, "", lambda: terms.plan(nms.View.of(bytes(torn)), order()))
+        refused("fewer shares of a torn view", 21, "", lambda: terms.reduced(nms.View.of(bytes(torn)), nms.Side.BID, {}))
         refused("half a view", 10, "data", lambda: nms.View.of(bytes(view)[:-1]))
         refused("no view", 10, "view", lambda: terms.plan(None, order()))
         refused("an order of another symbol", 12, "", lambda: terms.plan(view, order(sym="PNY")))
@@ -283,16 +310,19 @@ def arrays(setup):
                 check(f"an array that is none of changes: {wrong!r:.40}", False, many.apply_all(board, wrong))
             except TypeError:
                 check("an array of another type", True)
-        check("no changes", many.apply_all(board, changes[:0]) == 0 and board.applied() == 4)
+        check("no changes", many.apply_all(board, changes[:0]) == 0 and board.applied() == 4 and len(many.apply_best(board, changes[:0])) == 0)
+        after = many.apply_best(single, changes)
+        check("the best after each change by an array", after["version"].tolist() == [4, 5, 6] and after[2].tolist() == many.best_all(single)[0].tolist(), after)
+        refused_at("a change in the middle, with the best", 11, 1, lambda: many.apply_best(single, numpy.array([changes[0], (1, 2, 3, 4, 0, 0, 200, 0, 0, 0)], many.CHANGE)))
         check("each second change", many.apply_all(board, changes[::2]) == 2 and board.applied() == 6)
 
 
-def refused_at(what, code, place, call):
-    """The call raises an error of that code at that place."""
+def refused_at(what, code, place, call, at=None):
+    """The call raises an error of that code at that place, and of lines at that byte."""
     try:
         check(what, False, call())
     except nms.RefusedAt as error:
-        check(what, (error.code, error.place) == (code, place), (error.code, error.place))
+        check(what, (error.code, error.place, error.at) == (code, place, at), (error.code, error.place, error.at))
 
 
 def main(path, *headers):

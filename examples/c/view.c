@@ -61,6 +61,19 @@ int main(int count, char **words)
     nms_doubt doubt;
     must(nms_confirm_view(&terms, &view, &order, &plan, &doubt), "nms_confirm_view");
     printf("confirmed\n");
+
+    /* The orders of that plan are sent, and the quotes still show what they take: the next order is planned on what they leave. */
+    uint32_t most[NMS_MOST_PARTS] = { 0 };
+    for (unsigned at = 0; at < view.offer.count; ++at)
+        most[view.offer.part[at]] = view.offer.size[at];
+    for (unsigned at = 0; at < plan.legs; ++at)
+        most[plan.leg[at].part] -= plan.leg[at].shares;
+    nms_view left;
+    must(nms_reduce_view(&view, NMS_OFFER, most, &left), "nms_reduce_view");
+    must(nms_plan_view(&terms, &left, &order, &plan), "nms_plan_view");
+    must(nms_confirm_view(&terms, &left, &order, &plan, &doubt), "nms_confirm_view");
+    printf("on what its orders leave, the next plan fills %u shares in %u legs\n", (unsigned)plan.filled, (unsigned)plan.legs);
+
     nms_through through;
     must(nms_through_view(&view, 10005000, &through), "nms_through_view");
     printf("a trade at 10.005 trades through %u offers\n", (unsigned)through.offers);

@@ -31,6 +31,7 @@ _ABI, _MOST_PARTS, _MOST_OPENING = 2, 32, 65
 _PLACES = (f"libnms.so.{_ABI}", f"../../../../lib/libnms.so.{_ABI}", "../../crates/nms_c/out/libnms.so", "../../release/x86_64-linux/libnms.so")
 _OK, _RANGE, _NO_PART, _NO_SYM, _NONE, _DOUBTED = 0, 10, 11, 12, 14, 16
 _MOST_PRICE, _MOST_MILLIONTHS, _MOST_SHARES, _MOST_LOT = 99_999_999_999, 9_999_999_999_999, 999_999_999, 1_000
+_MOST_SIZE = 4_294_967_295
 
 
 # The structs of nms.h. Nothing compares these with the library but _SIZES below.
@@ -124,7 +125,11 @@ _CALLS = {
     "nms_raw_sym_name": [POINTER(_Board), c_uint16, POINTER(c_char), c_size_t, POINTER(c_size_t)],
     "nms_raw_apply": [POINTER(_Board), POINTER(_Change)],
     "nms_raw_apply_all": [POINTER(_Board), POINTER(_Change), c_size_t, POINTER(c_size_t)],
+    "nms_raw_apply_best": [POINTER(_Board), POINTER(_Change), c_size_t, POINTER(_Best), c_size_t, POINTER(c_size_t)],
+    "nms_raw_best_all": [POINTER(_Board), POINTER(c_uint16), c_size_t, POINTER(_Best), c_size_t, POINTER(c_size_t)],
+    "nms_raw_plan_all": [POINTER(_Board), POINTER(_Order), c_size_t, POINTER(_Plan), c_size_t, POINTER(c_size_t)],
     "nms_raw_apply_text": [POINTER(_Board), POINTER(c_char), c_size_t],
+    "nms_raw_apply_lines": [POINTER(_Board), POINTER(c_char), c_size_t, POINTER(c_size_t), POINTER(c_size_t)],
     "nms_raw_best_of": [POINTER(_Board), c_uint16, POINTER(_Best)],
     "nms_raw_view_of": [POINTER(_Board), c_uint16, POINTER(_View)],
     "nms_raw_ranked": [POINTER(_Board), c_uint16, c_uint8, c_uint8, POINTER(_Row)],
@@ -139,6 +144,7 @@ _CALLS = {
     "nms_raw_terms_part_name": [POINTER(_Terms), c_uint8, POINTER(c_char), c_size_t, POINTER(c_size_t)],
     "nms_raw_terms_sym_name": [POINTER(_Terms), c_uint16, POINTER(c_char), c_size_t, POINTER(c_size_t)],
     "nms_raw_through_view": [POINTER(_View), c_uint64, POINTER(_Through)],
+    "nms_raw_reduce_view": [POINTER(_View), c_uint8, POINTER(c_uint32), POINTER(_View)],
     "nms_raw_plan_view": [POINTER(_Terms), POINTER(_View), POINTER(_Order), POINTER(_Plan)],
     "nms_raw_confirm_view": [POINTER(_Terms), POINTER(_View), POINTER(_Order), POINTER(_Plan), POINTER(_Doubt)],
     "nms_raw_plan_order": [POINTER(_Board), POINTER(_Order), POINTER(_Plan)],
@@ -202,11 +208,12 @@ class NmsError(Exception):
 
 
 class RefusedAt(NmsError):
-    """One of many was refused. `place` is its place, from 0 on. Of changes, those before it were applied."""
+    """One of many was refused. `place` is its place, from 0 on. Of changes, those before it were applied. Of lines, `at` is the byte
+    where the refused one begins; else it is None."""
 
-    def __init__(self, code: int, place: int) -> None:
+    def __init__(self, code: int, place: int, at: Optional[int] = None) -> None:
         super().__init__(code)
-        self.place = place
+        self.place, self.at = place, at
 
 
 def _must(code: int) -> None:
@@ -306,7 +313,8 @@ class Market(enum.IntEnum):
 
 
 class Row(NamedTuple):
-    """A quotation of at least one round lot."""
+    """A quotation of at least one round lot. `receipt`: in the order of the changes that last altered a side of the symbol, at most
+    the version. It is the number of that change until 9,990,000 changes were applied."""
     part: str
     price: int
     size: int
@@ -550,6 +558,18 @@ class Board(_Named):
             raise RefusedAt(code, applied.value)
         return applied.value
 
+    def apply_best(self, changes: Iterable[Change]) -> List[Best]:
+        """As `apply_all`, and the best rows of each change's symbol after it. A withdrawal has to name a symbol here."""
+        asked = list(changes)
+        raw = [self._raw_change(it) for it in asked]
+        for one, change in zip(raw, asked):
+            one.sym = self.sym(change.sym)
+        done, array, found = c_size_t(), (_Change * max(1, len(raw)))(*raw), (_Best * max(1, len(raw)))()
+        code = _LIBRARY.nms_raw_apply_best(byref(self._board), array, len(raw), found, len(raw), byref(done))
+        if code:
+            raise RefusedAt(code, done.value)
+        return [self._best(it) for it in found[:done.value]]
+
     def _raw_change(self, change: Change) -> _Change:
         _is("change", change, Change)
         kind, raw = _number("kind", change.kind, 0, 3), _Change()
@@ -572,10 +592,30 @@ class Board(_Named):
         text = _bytes("record", record)
         _must(_LIBRARY.nms_raw_apply_text(byref(self._board), text, len(text)))
 
+    def apply_lines(self, text: bytes) -> int:
+        """Applies the changes that the lines of a text say, as a file of changes has them, in order, and returns how many. Raises
+        RefusedAt at the first that is refused: those before it were applied, and `at` is the byte where its line begins."""
+        _is("text", text, bytes)
+        applied, at = c_size_t(), c_size_t()
+        code = _LIBRARY.nms_raw_apply_lines(byref(self._board), text, len(text), byref(applied), byref(at))
+        if code:
+            raise RefusedAt(code, applied.value, at.value)
+        return applied.value
+
     def best(self, sym: str) -> Best:
         """The best bid and the best offer of a symbol."""
         best = _Best()
         _must(_LIBRARY.nms_raw_best_of(byref(self._board), self.sym(sym), byref(best)))
+        return self._best(best)
+
+    def best_all(self, syms: Iterable[str]) -> List[Best]:
+        """The best bid and the best offer of each of some symbols, in one call."""
+        numbers = [self.sym(it) for it in syms]
+        done, asked, found = c_size_t(), (c_uint16 * max(1, len(numbers)))(*numbers), (_Best * max(1, len(numbers)))()
+        _must(_LIBRARY.nms_raw_best_all(byref(self._board), asked, len(numbers), found, len(numbers), byref(done)))
+        return [self._best(it) for it in found[:done.value]]
+
+    def _best(self, best: _Best) -> Best:
         return Best(best.version, Market(best.market), self._row(best.bid), self._row(best.offer))
 
     def view(self, sym: str) -> View:
@@ -633,6 +673,13 @@ class Board(_Named):
         _must(_LIBRARY.nms_raw_plan_order(byref(self._board), byref(numbers), byref(plan)))
         return Plan(self, numbers, plan)
 
+    def plan_all(self, orders: Iterable[Order]) -> List[Plan]:
+        """A plan for each order, in one call. All are on the board as it is now, so two plans may take the same shares."""
+        numbers = [self._numbers(it) for it in orders]
+        done, asked, found = c_size_t(), (_Order * max(1, len(numbers)))(*numbers), (_Plan * max(1, len(numbers)))()
+        _must(_LIBRARY.nms_raw_plan_all(byref(self._board), asked, len(numbers), found, len(numbers), byref(done)))
+        return [Plan(self, order, _Plan.from_buffer_copy(plan)) for order, plan in zip(numbers, found)]
+
     def confirm(self, plan: Plan) -> Optional[Doubt]:
         """None if the plan is lawful and the best one for its order on this board; else why it is not confirmed."""
         _is("plan", plan, Plan)
@@ -682,6 +729,17 @@ class Terms(_Named):
         came, price = _Through(), _count("millionths", millionths, _MOST_MILLIONTHS)
         _must(_LIBRARY.nms_raw_through_view(byref(view._raw), price, byref(came)))
         return self._through(came)
+
+    def reduced(self, view: View, side: Side, most: Dict[str, int]) -> View:
+        """A view with at most the given number of shares of each participant on one side; of one that is not named, all of them. It is
+        for shares that one's own orders have taken, and that the quotes still show. A buyer reduces the offers."""
+        _is("view", view, View)
+        _is("most", most, dict)
+        left, number, shares = _View(), _number("side", side, 0, 1), (c_uint32 * _MOST_PARTS)(*[_MOST_SIZE] * _MOST_PARTS)
+        for part, count in most.items():
+            shares[self._part("most", part)] = _number("most", count, 0, _MOST_SIZE)
+        _must(_LIBRARY.nms_raw_reduce_view(byref(view._raw), number, shares, byref(left)))
+        return View(left)
 
     def confirm(self, view: View, plan: Plan) -> Optional[Doubt]:
         """None if the plan is lawful and the best one for its order on a view; else why it is not confirmed."""

@@ -7,7 +7,7 @@
 An array of another type raises TypeError. A number in an array that is out of its range is refused by the library.
 """
 import ctypes
-from ctypes import byref, c_size_t, c_uint16, c_uint32, c_void_p
+from ctypes import byref, c_size_t, c_uint32, c_void_p
 from typing import Optional
 
 import numpy
@@ -15,7 +15,7 @@ from numpy.typing import NDArray
 
 from . import _LIBRARY, _MOST_PARTS, Board, RefusedAt, _Best, _Change, _Counts, _must, _Order, _Plan
 
-__all__ = ["BEST", "CHANGE", "CUT", "LEG", "ORDER", "PLAN", "ROW", "RefusedAt", "apply_all", "best_all", "plan_all"]
+__all__ = ["BEST", "CHANGE", "CUT", "LEG", "ORDER", "PLAN", "ROW", "RefusedAt", "apply_all", "apply_best", "best_all", "plan_all"]
 
 CHANGE = numpy.dtype([("bid_price", "<u8"), ("offer_price", "<u8"), ("bid_shares", "<u4"), ("offer_shares", "<u4"), ("sym", "<u2"),
                       ("lot", "<u2"), ("part", "u1"), ("kind", "u1"), ("state", "u1"), ("spare", "u1")])
@@ -33,12 +33,9 @@ if [it.itemsize for it in (CHANGE, BEST, ORDER, PLAN)] != [*map(ctypes.sizeof, (
 # The same functions with addresses as arguments, so that no object of ctypes is made for each element. As in the package, the
 # interpreter's lock is held through each call.
 _FAST = ctypes.PyDLL(_LIBRARY._name)
-for _name, _arguments in {
-    "nms_raw_apply_all": [c_void_p, c_void_p, c_size_t, c_void_p],
-    "nms_raw_best_of": [c_void_p, c_uint16, c_void_p],
-    "nms_raw_plan_order": [c_void_p, c_void_p, c_void_p],
-}.items():
-    getattr(_FAST, _name).argtypes, getattr(_FAST, _name).restype = _arguments, c_uint32
+for _name in ("nms_raw_apply_all", "nms_raw_apply_best", "nms_raw_best_all", "nms_raw_plan_all"):
+    getattr(_FAST, _name).argtypes = [c_void_p, c_void_p, c_size_t, *([] if _name == "nms_raw_apply_all" else [c_void_p, c_size_t]), c_void_p]
+    getattr(_FAST, _name).restype = c_uint32
 
 
 def _rows(field: str, array: "NDArray[numpy.void]", kind: "numpy.dtype[numpy.void]") -> "NDArray[numpy.void]":
@@ -59,28 +56,34 @@ def apply_all(board: Board, changes: "NDArray[numpy.void]") -> int:
     return applied.value
 
 
+def apply_best(board: Board, changes: "NDArray[numpy.void]") -> "NDArray[numpy.void]":
+    """Applies changes in order, and returns the best bid and offer of each change's symbol after it. Of a withdrawal the sym is
+    used too. Raises RefusedAt at the first that is refused."""
+    return _many("nms_raw_apply_best", board, _rows("changes", changes, CHANGE), BEST)
+
+
 def best_all(board: Board, syms: Optional["NDArray[numpy.uint16]"] = None) -> "NDArray[numpy.void]":
     """The best bid and offer of each symbol of the setup, in its order; or of the symbols with these numbers."""
     counts = _Counts()
     _must(_LIBRARY.nms_raw_counts_of(byref(board._board), byref(counts)))
-    if syms is not None and syms.dtype != numpy.uint16:
+    asked = numpy.arange(counts.syms, dtype=numpy.uint16) if syms is None else syms
+    if not isinstance(asked, numpy.ndarray) or asked.dtype != numpy.uint16 or asked.ndim != 1:
         raise TypeError("syms is no array of uint16")
-    asked = range(counts.syms) if syms is None else syms.tolist()
-    found = numpy.zeros(len(asked), BEST)
-    for place, sym in enumerate(asked):
-        code = _FAST.nms_raw_best_of(ctypes.addressof(board._board), sym, found.ctypes.data + place * BEST.itemsize)
-        if code:
-            raise RefusedAt(code, place)
-    return found
+    return _many("nms_raw_best_all", board, numpy.ascontiguousarray(asked), BEST)
 
 
 def plan_all(board: Board, orders: "NDArray[numpy.void]") -> "NDArray[numpy.void]":
     """A plan for each order. All are on the board as it is now, so two plans may take the same shares."""
-    array = _rows("orders", orders, ORDER)
-    found = numpy.zeros(len(array), PLAN)
-    for place in range(len(array)):
-        given, to = array.ctypes.data + place * ORDER.itemsize, found.ctypes.data + place * PLAN.itemsize
-        code = _FAST.nms_raw_plan_order(ctypes.addressof(board._board), given, to)
-        if code:
-            raise RefusedAt(code, place)
+    return _many("nms_raw_plan_all", board, _rows("orders", orders, ORDER), PLAN)
+
+
+def _many(name: str, board: Board, asked: "NDArray[numpy.generic]", kind: "numpy.dtype[numpy.void]") -> "NDArray[numpy.void]":
+    """What one call of the library answers to each element."""
+    found, done = numpy.zeros(len(asked), kind), c_size_t()
+    if len(asked) == 0:
+        return found
+    where = [ctypes.addressof(board._board), asked.ctypes.data, len(asked), found.ctypes.data, len(found), ctypes.addressof(done)]
+    code = getattr(_FAST, name)(*where)
+    if code:
+        raise RefusedAt(code, done.value)
     return found

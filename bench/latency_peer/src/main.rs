@@ -23,7 +23,7 @@ mod values;
 use std::hint::black_box;
 
 use board::Boards;
-use numbers::{BestNumbers, ChangeNumbers, Open, OrderNumbers, PlanNumbers, RowNumbers};
+use numbers::{BestNumbers, ChangeNumbers, Open, OrderNumbers, PlanNumbers, RowNumbers, ThroughNumbers};
 use values::*;
 
 /// What a load asks for, one after another.
@@ -141,6 +141,11 @@ impl Sum {
         [row.price, row.receipt, u64::from(row.size), u64::from(row.part), u64::from(row.protected)].into_iter().for_each(|it| self.take(it));
     }
 
+    fn take_through(&mut self, through: &ThroughNumbers) {
+        [through.version, u64::from(through.count[0]), u64::from(through.count[1])].into_iter().for_each(|it| self.take(it));
+        through.rows.iter().flatten().for_each(|row| self.take_row(row));
+    }
+
     fn take_plan(&mut self, plan: &PlanNumbers) {
         [plan.version, plan.cost_low, plan.cost_high as u64, u64::from(plan.filled), u64::from(plan.legs)].into_iter().for_each(|it| self.take(it));
         for leg in &plan.leg[..plan.legs as usize] {
@@ -189,8 +194,8 @@ fn calls(load: &Load) {
     println!("best_all {many} {:.2}", (now() - from) as f64 / many as f64);
 
     // Each call by itself, and a sum of what all of them answer.
-    let (mut apply, mut looks, mut planning, mut confirming) = (Times::default(), Times::default(), Times::default(), Times::default());
-    let (mut desk, mut sum, mut plan) = (open(), Sum(0xcbf2_9ce4_8422_2325), PlanNumbers::default());
+    let [mut apply, mut looks, mut planning, mut confirming, mut through]: [Times; 5] = Default::default();
+    let (mut desk, mut sum, mut plan, mut passed) = (open(), Sum(0xcbf2_9ce4_8422_2325), PlanNumbers::default(), ThroughNumbers::default());
     for operation in &load.operations {
         match operation {
             Operation::Apply(change) => apply.take(|| desk.apply(change)).expect("a change"),
@@ -198,9 +203,9 @@ fn calls(load: &Load) {
             Operation::Plan(numbers) => {
                 planning.take(|| desk.plan(numbers, black_box(&mut plan))).expect("an order");
                 sum.take_plan(black_box(&plan));
-                let order = desk.order_of(numbers).expect("an order");
-                let (plan, certificate) = plan.read(&order);
-                assert!(confirming.take(|| check::confirm(desk.boards.view(order.sym), &order, &desk.fees, &plan, &certificate)));
+                confirming.take(|| desk.confirm(black_box(numbers), black_box(&plan))).expect("the best plan");
+                through.take(|| desk.traded_through(numbers.sym, numbers.limit * 100, black_box(&mut passed))).expect("a price");
+                sum.take_through(black_box(&passed));
             }
         }
         if let Some(sym) = sym_of(operation) {
@@ -210,10 +215,10 @@ fn calls(load: &Load) {
             sum.take(u64::from(best.market));
         }
     }
-    apply.print("apply", clock);
-    looks.print("best", clock);
-    planning.print("plan", clock);
-    confirming.print("confirm", clock);
+    let all = [("apply", apply), ("best", looks), ("plan", planning), ("confirm", confirming), ("through", through)];
+    for (name, times) in all {
+        times.print(name, clock);
+    }
     println!("sum {:016x}", sum.0);
 }
 

@@ -1,15 +1,18 @@
 //! The calls as the library has them: numbers come in and are tested, and the answer goes into the caller's room, where the
 //! places that it does not need are 0. So both sides of bench/latency do the same work. A call of a library is a call: none of
-//! the three is merged into its caller.
+//! them is merged into its caller.
 
 use std::num::NonZeroU32;
 
 use crate::board::{market, Boards, Row, View};
+use crate::check;
 use crate::sweep::plan_into;
 use crate::values::*;
 
 const MOST_PRICE: u64 = 99_999_999_999;
 const MOST_SHARES: u32 = 999_999_999;
+/// The most that an execution's price may be, in 1/1,000,000 dollar.
+const MOST_MILLIONTHS: u64 = 9_999_999_999_999;
 /// The changes that a board takes.
 const MOST_CHANGES: u64 = 10_000_000;
 
@@ -20,6 +23,7 @@ pub enum Refused {
     NoPart,
     NoSym,
     Full,
+    Doubted,
 }
 
 #[repr(C)]
@@ -126,8 +130,17 @@ impl PlanNumbers {
         (self.filled, self.legs, self.cuts, self.spare) = (filled, legs as u32, cuts as u32, 0);
     }
 
-    /// The plan as the checker takes it.
-    pub fn read(&self, order: &Order) -> (Plan, Certificate) {
+    /// The plan of n participants as the checker takes it: each number is tested first.
+    fn read(&self, parts: usize, order: &Order) -> Result<(Plan, Certificate), Refused> {
+        let legs = self.leg.get(..self.legs as usize).ok_or(Refused::Range)?;
+        let cuts = self.cut.get(..self.cuts as usize).ok_or(Refused::Range)?;
+        let is_price = |price: u64| (1..=MOST_PRICE).contains(&price);
+        if !legs.iter().all(|it| is_price(it.price) && it.shares <= MOST_SHARES) || !cuts.iter().all(|it| is_price(it.price) && it.kind <= 2) {
+            return Err(Refused::Range);
+        }
+        if !legs.iter().all(|it| usize::from(it.part) < parts) {
+            return Err(Refused::NoPart);
+        }
         let leg = |it: &LegNumbers| Leg { part: it.part, price: it.price, shares: it.shares };
         let cut = |it: &CutNumbers| Cut {
             price: it.price,
@@ -136,11 +149,34 @@ impl PlanNumbers {
         let plan = Plan {
             version: self.version,
             order: *order,
-            legs: self.leg[..self.legs as usize].iter().map(leg).collect(),
+            legs: legs.iter().map(leg).collect(),
             filled: self.filled,
             cost: (Money::from(self.cost_high) << 64) + Money::from(self.cost_low),
         };
-        (plan, self.cut[..self.cuts as usize].iter().map(cut).collect())
+        Ok((plan, cuts.iter().map(cut).collect()))
+    }
+}
+
+/// The protected quotations that a price trades through, of each side.
+#[repr(C)]
+#[derive(Clone, Copy)]
+pub struct ThroughNumbers {
+    pub version: u64,
+    pub count: [u32; 2],
+    pub rows: [[RowNumbers; MAX_PARTS]; 2],
+}
+
+impl Default for ThroughNumbers {
+    fn default() -> ThroughNumbers {
+        ThroughNumbers { version: 0, count: [0; 2], rows: [[RowNumbers::default(); MAX_PARTS]; 2] }
+    }
+}
+
+/// Whether an execution at a price in 1/1,000,000 dollar trades through a quotation at another price.
+fn is_through(side: Side, millionths: u64, price: Price) -> bool {
+    match side {
+        Side::Bid => millionths < price * 100,
+        Side::Offer => price * 100 < millionths,
     }
 }
 
@@ -232,6 +268,37 @@ impl Open {
     pub fn plan(&self, n: &OrderNumbers, out: &mut PlanNumbers) -> Result<(), Refused> {
         let order = self.order_of(n)?;
         out.take(self.boards.view(order.sym), &order, &self.fees);
+        Ok(())
+    }
+
+    /// Whether a plan is the best lawful one for an order.
+    #[inline(never)]
+    pub fn confirm(&self, order: &OrderNumbers, plan: &PlanNumbers) -> Result<(), Refused> {
+        let order = self.order_of(order)?;
+        let (plan, certificate) = plan.read(self.parts, &order)?;
+        let holds = check::confirm(self.boards.view(order.sym), &order, &self.fees, &plan, &certificate);
+        if holds { Ok(()) } else { Err(Refused::Doubted) }
+    }
+
+    /// Writes what a price trades through, by participant. Rows are in rank order, so it looks no further than the price.
+    #[inline(never)]
+    pub fn traded_through(&self, sym: u16, millionths: u64, out: &mut ThroughNumbers) -> Result<(), Refused> {
+        if !(1..=MOST_MILLIONTHS).contains(&millionths) {
+            return Err(Refused::Range);
+        }
+        let view = self.boards.view(self.sym(sym)?);
+        out.version = view.version;
+        for side in Side::BOTH {
+            let (rows, mut count) = (&mut out.rows[side as usize], 0);
+            let through = view.book.ranked(side).iter().take_while(|row| is_through(side, millionths, row.price));
+            for row in through.filter(|row| row.protected) {
+                rows[count] = row_numbers(Some(row));
+                count += 1;
+            }
+            rows[..count].sort_unstable_by_key(|row| row.part);
+            rows[count..].fill(RowNumbers::default());
+            out.count[side as usize] = count as u32;
+        }
         Ok(())
     }
 }

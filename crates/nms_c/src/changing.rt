@@ -1,7 +1,7 @@
 //! Changes of a board.
-ghost use Rattle.std.specs.Prelude.{◌≡◌, ◌≢◌, Some};
+ghost use Rattle.std.specs.Prelude.{◌≡◌, ◌≢◌, ◌+◌, take};
 ghost use Rattle.nms_calls.specs.Codes.{answer_of};
-ghost use Rattle.nms_calls.specs.Opened.{Grew, all_applied, apply_fault, apply_left};
+ghost use Rattle.nms_calls.specs.Opened.{AreApplied, Grew, HasAppliedSaid, all_applied, apply_fault, version};
 ghost use Rattle.nms_c.specs.Behind.{Behind};
 ghost use Rattle.nms_c.specs.Held.{open_mark};
 
@@ -16,7 +16,8 @@ pub extern "C" fn nms_raw_apply(alloc: Global, board: &mut NmsBoard, change: &Nm
     ensures closed { board.old.mark ≢ open_mark → (result ≡ 15) × (board.new ≡ board.old) }
     ensures open { board.old.mark ≡ open_mark → board.new.mark ≡ open_mark }
     ensures answer { board.old.mark ≡ open_mark → Behind board.old.value (λ opened. result ≡ answer_of (apply_fault opened change.now)) }
-    ensures left { board.old.mark ≡ open_mark → Behind board.old.value (λ opened. board.new.value ≡ Some (apply_left opened change.now)) }
+    ensures applied { result ≡ 0 → Behind board.old.value (λ old. Behind board.new.value (λ new. HasAppliedSaid change.now old new)) }
+    ensures unchanged { result ≢ 0 → board.new.value ≡ board.old.value }
     ensures grew { result ≡ 0 → Behind board.old.value (λ old. Behind board.new.value (λ new. Grew change.now old new)) }
 {
     let Some(mut kept) = take(alloc, board) else {
@@ -38,8 +39,9 @@ pub extern "C" fn nms_raw_apply_all(
     ensures closed { board.old.mark ≢ open_mark → (result ≡ 15) × (board.new ≡ board.old) × (applied.new ≡ applied.old) }
     ensures open { board.old.mark ≡ open_mark → board.new.mark ≡ open_mark }
     ensures answer { board.old.mark ≡ open_mark → Behind board.old.value (λ opened. result ≡ answer_of ((all_applied opened changes.now).fault)) }
-    ensures left { board.old.mark ≡ open_mark → Behind board.old.value (λ opened. board.new.value ≡ Some (all_applied opened changes.now).opened) }
     ensures applied { board.old.mark ≡ open_mark → Behind board.old.value (λ opened. applied.new ≡ (all_applied opened changes.now).applied) }
+    ensures left { board.old.mark ≡ open_mark → Behind board.old.value (λ old. Behind board.new.value (λ new. AreApplied old (take applied.new changes.now) new)) }
+    ensures version { board.old.mark ≡ open_mark → Behind board.old.value (λ old. Behind board.new.value (λ new. version new ≡ version old + applied.new)) }
 {
     let Some(mut kept) = take(alloc, board) else {
         return CLOSED;

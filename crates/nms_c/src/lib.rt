@@ -2,6 +2,7 @@
 //! out, makes one call of `nms_calls`, and puts the board back.
 #![tactic(auto)]
 
+mod batching;
 mod changing;
 mod handle;
 mod lease;

@@ -21,7 +21,7 @@ pub extern "C" fn nms_raw_best_of(look: &mut NmsLook, sym: u16, out: &mut NmsBes
     ensures closed { look.old.mark ≢ open_mark → (result ≡ 15) × (look.new ≡ look.old) }
     ensures open { look.old.mark ≡ open_mark → look.new.mark ≡ open_mark }
     ensures answer { look.old.mark ≡ open_mark → Behind look.old.value (λ opened. result ≡ answer_of (sym_fault opened sym)) }
-    ensures best { result ≡ 0 → Behind look.old.value (λ opened. AreBest opened.board sym out.new) }
+    ensures best { result ≡ 0 → Behind look.old.value (λ opened. AreBest opened sym out.new) }
     ensures same { look.new.value ≡ look.old.value }
     ensures share { look.old.mark ≡ open_mark → (look.new.round ≡ look.old.round) × (look.new.count ≡ look.old.count) }
     ensures unwritten { result ≢ 0 → out.new ≡ out.old }
@@ -85,7 +85,7 @@ pub extern "C" fn nms_raw_view_of(look: &mut NmsLook, sym: u16, out: &mut NmsVie
     ensures closed { look.old.mark ≢ open_mark → (result ≡ 15) × (look.new ≡ look.old) }
     ensures open { look.old.mark ≡ open_mark → look.new.mark ≡ open_mark }
     ensures answer { look.old.mark ≡ open_mark → Behind look.old.value (λ opened. result ≡ answer_of (sym_fault opened sym)) }
-    ensures view { result ≡ 0 → Behind look.old.value (λ opened. IsView opened.board sym out.new) }
+    ensures view { result ≡ 0 → Behind look.old.value (λ opened. IsView opened sym out.new) }
     ensures same { look.new.value ≡ look.old.value }
     ensures share { look.old.mark ≡ open_mark → (look.new.round ≡ look.old.round) × (look.new.count ≡ look.old.count) }
     ensures unwritten { result ≢ 0 → out.new ≡ out.old }
@@ -109,7 +109,7 @@ pub extern "C" fn nms_raw_traded_through(
     ensures closed { look.old.mark ≢ open_mark → (result ≡ 15) × (look.new ≡ look.old) }
     ensures open { look.old.mark ≡ open_mark → look.new.mark ≡ open_mark }
     ensures answer { look.old.mark ≡ open_mark → Behind look.old.value (λ opened. result ≡ answer_of (through_fault opened sym millionths)) }
-    ensures through { result ≡ 0 → Behind look.old.value (λ opened. AreThrough opened.board sym millionths out.new) }
+    ensures through { result ≡ 0 → Behind look.old.value (λ opened. AreThrough opened sym millionths out.new) }
     ensures same { look.new.value ≡ look.old.value }
     ensures share { look.old.mark ≡ open_mark → (look.new.round ≡ look.old.round) × (look.new.count ≡ look.old.count) }
     ensures unwritten { result ≢ 0 → out.new ≡ out.old }

@@ -1,7 +1,8 @@
 //! Plans of orders, and their check: looks at a board, too.
 ghost use Rattle.std.specs.Prelude.{◌≡◌, ◌≢◌, IfOk};
 ghost use Rattle.nms_calls.specs.Codes.{answer_of};
-ghost use Rattle.nms_calls.specs.Opened.{confirm_fault, doubt_written, finding, order_fault, sizes_on};
+ghost use Rattle.nms_calls.specs.Findings.{confirm_fault, doubt_written, finding};
+ghost use Rattle.nms_calls.specs.Opened.{order_fault, sizes_on};
 ghost use Rattle.nms_calls.specs.OrderSaid.{order_said};
 ghost use Rattle.nms_calls.specs.PlanNumbers.{IsBestPlan};
 ghost use Rattle.nms_c.specs.Behind.{Behind};
@@ -19,7 +20,7 @@ pub extern "C" fn nms_raw_plan_order(look: &mut NmsLook, order: &NmsOrder, out: 
     ensures open { look.old.mark ≡ open_mark → look.new.mark ≡ open_mark }
     ensures answer { look.old.mark ≡ open_mark → Behind look.old.value (λ opened. result ≡ answer_of (order_fault opened order.now)) }
     ensures best { result ≡ 0 → Behind look.old.value (λ opened. IfOk (order_said (sizes_on opened) order.now)
-        (λ terms. IsBestPlan opened.board opened.settings.fees terms out.new)) }
+        (λ terms. IsBestPlan opened terms out.new)) }
     ensures same { look.new.value ≡ look.old.value }
     ensures share { look.old.mark ≡ open_mark → (look.new.round ≡ look.old.round) × (look.new.count ≡ look.old.count) }
     ensures unwritten { result ≢ 0 → out.new ≡ out.old }

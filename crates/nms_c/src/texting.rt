@@ -1,10 +1,12 @@
-//! Texts: of the library's version and of codes, of a record, and of plans.
-ghost use Rattle.std.specs.Prelude.{◌≡◌, ◌≢◌, ◌⊎◌, codes, IfOk, IfSome, Option, Some};
+//! Texts: of the library's version and of codes, of records, and of plans.
+ghost use Rattle.std.specs.Prelude.{◌≡◌, ◌≢◌, ◌⊎◌, ◌+◌, ◌<◌, codes, drop, IfOk, IfSome, length, Option, take};
 ghost use Rattle.nms_lines.specs.PlanText.{plan_text};
 ghost use Rattle.nms_calls.specs.CodeTexts.{code_fault, code_text};
 ghost use Rattle.nms_calls.specs.Codes.{answer_of};
-ghost use Rattle.nms_calls.specs.Opened.{made_said};
-ghost use Rattle.nms_calls.specs.RecordSaid.{PlanRead, plan_text_fault, record_fault, record_left};
+ghost use Rattle.nms_calls.specs.Findings.{made_said};
+ghost use Rattle.nms_calls.specs.Opened.{version};
+ghost use Rattle.nms_calls.specs.RecordSaid.{HasAppliedRecord, PlanRead, plan_text_fault, record_fault};
+ghost use Rattle.nms_calls.specs.TextLines.{AreAppliedRecords, all_records, line_start, records_in};
 ghost use Rattle.nms_calls.specs.Written.{IsWritten, text_fault};
 ghost use Rattle.nms_calls.specs.declared.call_fault.CallFault.{CallFault};
 ghost use Rattle.nms_c.specs.Behind.{Behind};
@@ -41,13 +43,41 @@ pub extern "C" fn nms_raw_apply_text(alloc: Global, board: &mut NmsBoard, text: 
     ensures closed { board.old.mark ≢ open_mark → (result ≡ 15) × (board.new ≡ board.old) }
     ensures open { board.old.mark ≡ open_mark → board.new.mark ≡ open_mark }
     ensures answer { board.old.mark ≡ open_mark → result ≢ 9 → Behind board.old.value (λ opened. result ≡ answer_of (record_fault opened text.now)) }
-    ensures left { result ≡ 0 → Behind board.old.value (λ opened. board.new.value ≡ Some (record_left opened text.now)) }
+    ensures applied { result ≡ 0 → Behind board.old.value (λ old. Behind board.new.value (λ new. HasAppliedRecord text.now old new)) }
     ensures unchanged { result ≢ 0 → board.new.value ≡ board.old.value }
 {
     let Some(mut kept) = take(alloc, board) else {
         return CLOSED;
     };
     let code = answer(kept.apply_record(text));
+    give(board, kept);
+    code
+}
+
+/// Applies the changes that the lines of a text say, in order up to the first that is refused. Writes how many were applied, and
+/// the byte where the next line begins.
+#[unsafe(no_mangle)]
+pub extern "C" fn nms_raw_apply_lines(
+    alloc: Global,
+    board: &mut NmsBoard,
+    text: &[u8],
+    applied: &mut usize,
+    at: &mut usize,
+) -> u32
+    ensures closed { board.old.mark ≢ open_mark → (result ≡ 15) × (board.new ≡ board.old) × (applied.new ≡ applied.old) × (at.new ≡ at.old) }
+    ensures open { board.old.mark ≡ open_mark → board.new.mark ≡ open_mark }
+    ensures answer { board.old.mark ≡ open_mark → result ≢ 9 → Behind board.old.value (λ opened. result ≡ answer_of ((all_records opened (records_in text.now)).fault)) }
+    ensures applied { board.old.mark ≡ open_mark → result ≢ 9 → Behind board.old.value (λ opened. applied.new ≡ (all_records opened (records_in text.now)).applied) }
+    ensures refused { board.old.mark ≡ open_mark → result ≢ 0 → applied.new < length (records_in text.now) }
+    ensures at { board.old.mark ≡ open_mark → at.new ≡ line_start text.now applied.new }
+    ensures rest { board.old.mark ≡ open_mark → records_in (drop at.new text.now) ≡ drop applied.new (records_in text.now) }
+    ensures left { board.old.mark ≡ open_mark → Behind board.old.value (λ old. Behind board.new.value (λ new. AreAppliedRecords old (take applied.new (records_in text.now)) new)) }
+    ensures version { board.old.mark ≡ open_mark → Behind board.old.value (λ old. Behind board.new.value (λ new. version new ≡ version old + applied.new)) }
+{
+    let Some(mut kept) = take(alloc, board) else {
+        return CLOSED;
+    };
+    let code = answer(kept.apply_lines(text, applied, at));
     give(board, kept);
     code
 }

@@ -3,6 +3,7 @@
 ghost use Rattle.std.specs.Prelude.{◌≡◌, ◌≢◌, IfErr, IfOk, None, Option, Some};
 ghost use Rattle.nms_calls.specs.Codes.{answer_of, setup_code};
 ghost use Rattle.nms_calls.specs.ViewCalls.{IsChecked, IsPlanned, IsThrough};
+ghost use Rattle.nms_calls.specs.ViewReduced.{IsReduced};
 ghost use Rattle.nms_calls.specs.declared.call_fault.CallFault.{CallFault as Why};
 ghost use Rattle.nms_c.specs.Behind.{Behind};
 ghost use Rattle.nms_c.specs.TermsHeld.{terms_mark};
@@ -16,7 +17,7 @@ use crate::terms_look::NmsTermsLook;
 use core::mem::replace_with;
 use nms_calls::{
     CallFault, NmsDoubt, NmsOrder, NmsPlan, NmsThrough, NmsView, answer, confirm_view, plan_view,
-    through_view,
+    reduce_view, through_view,
 };
 use nms_fees::{Setup, SetupFault, read_setup_bytes};
 use std::alloc::Global;
@@ -138,4 +139,18 @@ pub extern "C" fn nms_raw_through_view(view: &NmsView, millionths: u64, out: &mu
     ensures unwritten { result ≢ 0 → out.new ≡ out.old }
 {
     answer(through_view(view, millionths, out))
+}
+
+/// Writes a view with at most `most[n]` shares of participant n on a side.
+#[unsafe(no_mangle)]
+pub extern "C" fn nms_raw_reduce_view(
+    view: &NmsView,
+    side: u8,
+    most: &[u32; 32],
+    out: &mut NmsView,
+) -> u32
+    ensures reduced { (told : Option Why) × (result ≡ answer_of told) × IsReduced view.now side most.now told out.new }
+    ensures unwritten { result ≢ 0 → out.new ≡ out.old }
+{
+    answer(reduce_view(view, side, most, out))
 }

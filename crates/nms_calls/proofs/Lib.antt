@@ -1,6 +1,16 @@
+pub mod BatchLemmas
 pub mod ChangeLemmas
+pub mod LineLemmas
 pub mod OpenedLemmas
+pub mod OrderLemmas
 pub mod PlaceLemmas
+pub mod RecordLemmas
+pub mod ReducedLemmas
+pub mod ReducedSaid
+pub mod RowRankLemmas
 pub mod SetupPlaceLemmas
 pub mod SideLemmas
+pub mod TakenLemmas
+pub mod ThroughLemmas
+pub mod VersionLemmas
 pub mod ViewLemmas

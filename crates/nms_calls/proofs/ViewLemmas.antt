@@ -1,7 +1,7 @@
 -- Rows read one after another, and the view that they are.
-use Rattle.std.proofs.Common.{◌≡◌, Bool, true, false, Some, ℕ, ◌+◌, ◌<◌, ◌≤◌, List, [], ◌∷◌, ◌++◌, length, get_or, refl, sym, ap, ◌∙◌, subst}
+use Rattle.std.proofs.Common.{◌≡◌, Bool, true, false, Some, ℕ, ◌<◌, List, [], ◌∷◌, ◌++◌, length, get_or, refl, sym, ap, ◌∙◌, subst}
 use Rattle.std.proofs.Common.{inl, inr, arith}
-use Rattle.std.specs.Prelude.{All, Option, unwrap_or}
+use Rattle.std.specs.Prelude.{Option, unwrap_or}
 use Rattle.std.proofs.lemmas.Bool.{cases_lt}
 use Rattle.std.proofs.lemmas.List.{ext_get_or, length_push, get_or_append_left, get_or_push}
 use Rattle.std.proofs.lemmas.List.Sorted.{All-permutation, IsPermutation-sym}
@@ -9,7 +9,7 @@ use Rattle.std.proofs.lemmas.Option.{slice_get-get_or}
 use Rattle.nms_quote.specs.declared.TheConstants.{MOST_SYMBOLS}
 use Rattle.nms_quote.specs.declared.side_quote.Side.{Side}
 use Rattle.nms_quote.specs.declared.side_quote.Side.TheVariants.{Bid, Offer}
-use Rattle.nms_board.specs.Ranking.{IsRankOrder, ranked, ranked_at, total_size}
+use Rattle.nms_board.specs.Ranking.{IsRankOrder, ranked, total_size}
 use Rattle.nms_board.specs.View.{AreRows, Seen}
 use Rattle.nms_board.specs.declared.row.Row.{Row}
 use Rattle.nms_board.proofs.Offered.{long_as, one_side, order_of, ranked_at_is, rows_in_order}

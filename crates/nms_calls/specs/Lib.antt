@@ -3,6 +3,8 @@ pub mod ChangeSaid
 pub mod CodeTexts
 pub mod Codes
 pub mod DoubtNumbers
+pub mod Examples
+pub mod Findings
 pub mod Looked
 pub mod Named
 pub mod Opened
@@ -10,9 +12,14 @@ pub mod OrderSaid
 pub mod PlanNumbers
 pub mod PlanSaid
 pub mod RecordSaid
+pub mod ReducedExamples
+pub mod ReducedLaws
 pub mod RowNumbers
 pub mod RowsSaid
 pub mod SetupPlaces
+pub mod TextLines
 pub mod ViewCalls
+pub mod ViewReduced
 pub mod ViewSaid
 pub mod Written
+pub mod Batches

@@ -2,7 +2,8 @@
 use Rattle.std.specs.Prelude.{ℕ, ◌-◌, nat_lt, List, length, Option, Some, None, if◌then◌else◌}
 use Rattle.nms_quote.specs.Roster.{part_text, symbol_text}
 use Rattle.nms_fees.specs.Settings.{Settings}
-use Rattle.nms_calls.specs.Opened.{Opened}
+use Rattle.nms_opening.specs.declared.TheConstants.{MOST_BEFORE}
+use Rattle.nms_calls.specs.Opened.{Opened, version}
 use Rattle.nms_calls.specs.Written.{text_fault}
 use Rattle.nms_calls.specs.declared.call_fault.CallFault.{CallFault}
 use Rattle.nms_calls.specs.declared.call_fault.CallFault.TheVariants as fault
@@ -10,8 +11,8 @@ use Rattle.nms_calls.specs.declared.roster_calls.NmsCounts.{NmsCounts}
 
 abbrev pub counts_of : Opened → NmsCounts
 counts_of opened = record {
-  applied = opened.board.applied;
-  room = opened.settings.tape_limit - opened.board.applied;
+  applied = version opened;
+  room = MOST_BEFORE - version opened;
   parts = length opened.settings.roster.parts;
   syms = length opened.settings.roster.syms;
 }

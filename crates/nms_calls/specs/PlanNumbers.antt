@@ -6,14 +6,13 @@ use Rattle.nms_quote.specs.declared.certificate.CutKind.{CutKind}
 use Rattle.nms_quote.specs.declared.certificate.CutKind.TheVariants as kind
 use Rattle.nms_quote.specs.declared.plan.Leg.{Leg}
 use Rattle.nms_quote.specs.declared.plan.Plan.{Plan}
-use Rattle.nms_board.specs.Cells.{Board}
-use Rattle.nms_board.specs.Shown.{seen_on}
 use Rattle.nms_board.specs.View.{Seen}
 use Rattle.nms_fee_book.specs.Fees.{Charges}
 use Rattle.nms_rules.specs.Accepted.{IsAccepted}
 use Rattle.nms_rules.specs.Assignment.{IsOptimal}
 use Rattle.nms_rules.specs.Faultless.{given_by}
 use Rattle.nms_rules.specs.Usable.{usable}
+use Rattle.nms_calls.specs.Opened.{Opened, seen_of}
 use Rattle.nms_calls.specs.declared.plan_numbers.NmsCut.{NmsCut}
 use Rattle.nms_calls.specs.declared.plan_numbers.NmsLeg.{NmsLeg}
 use Rattle.nms_calls.specs.declared.plan_numbers.NmsPlan.{NmsPlan}
@@ -79,6 +78,6 @@ pub record IsBestOn (seen : Seen) (fees : Charges) (order : Terms) (out : NmsPla
   pub accepted : IsAccepted seen order fees plan certificate
   pub optimal : IsOptimal (usable seen order fees) order.shares (given_by plan.legs.items)
 
--- those of the best one on a board
-abbrev pub IsBestPlan : Board → Charges → Terms → NmsPlan → Type 0
-IsBestPlan board fees order out = IsBestOn (seen_on board order.sym) fees order out
+-- those of the best one on what a look shows of the order's symbol, with the setup's fees
+abbrev pub IsBestPlan : Opened → Terms → NmsPlan → Type 0
+IsBestPlan opened order out = IsBestOn (seen_of opened order.sym) opened.settings.fees order out

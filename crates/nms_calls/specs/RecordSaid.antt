@@ -1,5 +1,5 @@
 -- What the text of one record says, and the text of a plan. This product's own rule.
-use Rattle.std.specs.Prelude.{◌≡◌, ◌≢◌, ◌<◌, ◌≤◌, ◌==◌, ℕ, Bool, false, nat_le, not, List, length, IfSome, Option, Some, None}
+use Rattle.std.specs.Prelude.{◌≡◌, ◌≢◌, ◌<◌, ◌≤◌, ◌==◌, ℕ, Bool, false, nat_le, not, List, length, IfOk, IfSome, Option, Some, None}
 use Rattle.std.specs.Prelude.{Result, Ok, Err, if◌then◌else◌}
 use Rattle.std.specs.List.{list_all, slice_split}
 use Rattle.nms_quote.specs.Roster.{Listing}
@@ -21,7 +21,8 @@ use Rattle.nms_lines.specs.declared.line.Reading.TheVariants as from
 use Rattle.nms_lines.specs.declared.line_fault.LineFault.{LineFault}
 use Rattle.nms_lines.specs.declared.line_fault.LineFault.TheVariants as refused
 use Rattle.nms_sweep.specs.Planned.{Planned}
-use Rattle.nms_calls.specs.Opened.{Opened, left_on, made_said, room_fault}
+use Rattle.nms_calls.specs.Findings.{made_said}
+use Rattle.nms_calls.specs.Opened.{HasApplied, Opened, room_fault, version}
 use Rattle.nms_calls.specs.PlanNumbers.{AreNumbersOf}
 use Rattle.nms_calls.specs.RowNumbers.{flag}
 use Rattle.nms_calls.specs.Written.{text_fault}
@@ -57,10 +58,11 @@ record_said roster text =
     if nat_le (length text) MOST_RECORD then change_of_reading (reading roster from.Changes (fields_in text)) else Err fault.Range
 
 abbrev pub record_fault : Opened → List ℕ → Option CallFault
-record_fault opened text = room_fault opened (record_said opened.settings.roster text)
+record_fault opened text = room_fault (version opened) (record_said opened.settings.roster text)
 
-abbrev pub record_left : Opened → List ℕ → Opened
-record_left opened text = left_on opened (record_said opened.settings.roster text)
+-- the change that a record says was applied
+abbrev pub HasAppliedRecord : List ℕ → Opened → Opened → Type 0
+HasAppliedRecord text old new = IfOk (record_said old.settings.roster text) (HasApplied old new)
 
 -- ---- a plan
 

@@ -3,15 +3,15 @@ use Rattle.std.specs.Prelude.{◌≡◌, ◌<◌, ◌*◌, ◌&&◌, ℕ, Bool, 
 use Rattle.std.specs.List.{filter}
 use Rattle.nms_quote.specs.declared.side_quote.Side.{Side}
 use Rattle.nms_quote.specs.declared.side_quote.Side.TheVariants.{Bid, Offer}
-use Rattle.nms_board.specs.Cells.{Board}
 use Rattle.nms_board.specs.Ranking.{ranked_at, total_size}
-use Rattle.nms_board.specs.Shown.{rows_held, seen_on}
+use Rattle.nms_board.specs.Shown.{rows_held}
 use Rattle.nms_board.specs.View.{Seen}
 use Rattle.nms_board.specs.declared.row.Row.{Row}
 use Rattle.nms_nbbo.specs.Best.{IsBestOf}
 use Rattle.nms_nbbo.specs.Market.{market_of}
 use Rattle.nms_nbbo.specs.declared.market_kind.Market.{Market}
 use Rattle.nms_nbbo.specs.declared.market_kind.Market.TheVariants as market
+use Rattle.nms_calls.specs.Opened.{Opened, seen_of, version}
 use Rattle.nms_calls.specs.declared.row_numbers.NmsBest.{NmsBest}
 use Rattle.nms_calls.specs.declared.row_numbers.NmsRow.{NmsRow}
 use Rattle.nms_calls.specs.declared.row_numbers.NmsRows.{NmsRows}
@@ -46,14 +46,14 @@ market_number market.Normal = 2
 market_number market.Locked = 3
 market_number market.Crossed = 4
 
--- the numbers of a board's best bid and best offer in a symbol, with its version and the state of the market
-pub record AreBest (board : Board) (sym : ℕ) (out : NmsBest) : Type 0 where
+-- the numbers of the best bid and the best offer in a symbol, with the version and the state of the market
+pub record AreBest (opened : Opened) (sym : ℕ) (out : NmsBest) : Type 0 where
   pub bid : Option Row
   pub offer : Option Row
-  pub best_bid : IsBestOf Bid (rows_held board sym Bid) bid
-  pub best_offer : IsBestOf Offer (rows_held board sym Offer) offer
+  pub best_bid : IsBestOf Bid (rows_held opened.board sym Bid) bid
+  pub best_offer : IsBestOf Offer (rows_held opened.board sym Offer) offer
   pub numbers : out ≡ record {
-    version = board.applied;
+    version = version opened;
     bid = row_numbers bid;
     offer = row_numbers offer;
     market = market_number (market_of bid offer);
@@ -92,12 +92,12 @@ abbrev pub market_between : List Row → List Row → ℕ
 market_between bids offers = market_number (market_of (ranked_at Bid bids 0) (ranked_at Offer offers 0))
 
 -- both sides of a symbol, with the version, the symbol and the state of the market
-pub record IsView (board : Board) (sym : ℕ) (out : NmsView) : Type 0 where
-  pub version : out.version ≡ board.applied
+pub record IsView (opened : Opened) (sym : ℕ) (out : NmsView) : Type 0 where
+  pub version_of : out.version ≡ version opened
   pub of_sym : out.sym ≡ sym
-  pub bids : AreRanked Bid (rows_held board sym Bid) out.bid
-  pub offers : AreRanked Offer (rows_held board sym Offer) out.offer
-  pub market : out.market ≡ market_between (rows_held board sym Bid) (rows_held board sym Offer)
+  pub bids : AreRanked Bid (rows_held opened.board sym Bid) out.bid
+  pub offers : AreRanked Offer (rows_held opened.board sym Offer) out.offer
+  pub market : out.market ≡ market_between (rows_held opened.board sym Bid) (rows_held opened.board sym Offer)
 
 -- a price in 1/1,000,000 dollar is traded through by a protected bid above it, and by a protected offer below it
 abbrev pub is_beyond : Side → ℕ → ℕ → Bool
@@ -122,6 +122,6 @@ pub record AreThroughOn (seen : Seen) (millionths : ℕ) (out : NmsThrough) : Ty
   pub bid : AreRowsAt out.bid (through_at Bid millionths seen.bids)
   pub offer : AreRowsAt out.offer (through_at Offer millionths seen.offers)
 
--- those of a board
-abbrev pub AreThrough : Board → ℕ → ℕ → NmsThrough → Type 0
-AreThrough board sym millionths out = AreThroughOn (seen_on board sym) millionths out
+-- those of a look at a symbol
+abbrev pub AreThrough : Opened → ℕ → ℕ → NmsThrough → Type 0
+AreThrough opened sym millionths out = AreThroughOn (seen_of opened sym) millionths out

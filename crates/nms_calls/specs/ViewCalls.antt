@@ -7,7 +7,8 @@ use Rattle.nms_cert.specs.Doubts.{doubt_of}
 use Rattle.nms_cert.specs.declared.doubt.Doubt.{Doubt}
 use Rattle.nms_fees.specs.Settings.{Settings}
 use Rattle.nms_sweep.specs.Planned.{Planned}
-use Rattle.nms_calls.specs.Opened.{doubt_written, doubted, error_of, made_said}
+use Rattle.nms_calls.specs.Findings.{doubt_written, doubted, made_said}
+use Rattle.nms_calls.specs.Opened.{error_of}
 use Rattle.nms_calls.specs.OrderSaid.{order_said}
 use Rattle.nms_calls.specs.PlanNumbers.{IsBestOn}
 use Rattle.nms_calls.specs.RowNumbers.{AreThroughOn}

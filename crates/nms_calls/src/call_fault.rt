@@ -17,7 +17,7 @@ pub enum CallFault {
     NoParticipant,
     /// 12: no such symbol on the roster.
     NoSymbol,
-    /// 13: the tape has as many changes as the setup's limit allows.
+    /// 13: the board has taken 2^63 changes. The setup's limit of the tape does not count here.
     Full,
     /// 14: no row stands at that place of the rank order.
     NoRow,

@@ -125,7 +125,7 @@ fn text_of(fault: CallFault) -> &'static str
         CallFault::Range => "a number is out of its range",
         CallFault::NoParticipant => "no such participant",
         CallFault::NoSymbol => "no such symbol",
-        CallFault::Full => "the tape is full",
+        CallFault::Full => "2^63 changes were applied: the board takes no more",
         CallFault::NoRow => "nothing stands there",
         CallFault::Closed => "the board is not open",
         CallFault::Doubted => "the plan is not confirmed",

@@ -1,9 +1,8 @@
 //! What an open handle holds, and the calls on it: `specs/Opened`.
-ghost use Rattle.std.specs.Prelude.{◌≡◌, ◌≢◌, ◌++◌, ◌∷◌, [], IfOk, IfErr, OnOk, OnErr, Ok, true};
+ghost use Rattle.std.specs.Prelude.{◌≡◌, ◌≢◌, ◌==◌, IfOk, IfErr, OnOk, OnErr, Ok, true};
 ghost use Rattle.std.specs.Result.{result_err};
 ghost use Rattle.nms_quote.specs.Roster.{holds};
-ghost use Rattle.nms_quote.specs.Tape.{Tape};
-ghost use Rattle.nms_board.specs.Cells.{StandsFor};
+ghost use Rattle.nms_calls.specs.Findings.{confirm_fault, doubt_written, finding};
 ghost use Rattle.nms_calls.specs.OrderSaid.{order_said};
 ghost use Rattle.nms_calls.specs.PlanNumbers.{IsBestPlan};
 ghost use Rattle.nms_calls.specs.RowNumbers.{AreBest};
@@ -16,16 +15,17 @@ use crate::doubt_numbers::NmsDoubt;
 use crate::order_numbers::NmsOrder;
 use crate::order_reading::order_of;
 use crate::plan_numbers::NmsPlan;
-use crate::plan_reading::plan_of;
+use crate::plan_reading::{no_plan, read_into};
 use crate::plan_writing::put_plan;
 use crate::row_numbers::{NmsBest, NmsRow, market_number};
-use nms_board::Boards;
-use nms_cert::confirm;
+use arrayvec::ArrayVec;
+use nms_cert::confirm_on;
 use nms_fees::{Setup, SetupFault, read_setup_bytes};
 use nms_lines::ByteRecord;
 use nms_nbbo::{best_on, market_between};
+use nms_opening::{MOST_BEFORE, RollingBoard};
 use nms_quote::{Change, Side, SideQuote};
-use nms_sweep::{Planner, an_accepted_plan_is_within_bounds};
+use nms_sweep::{an_accepted_plan_is_within_bounds, plan_on};
 use nms_units::Lot;
 use std::alloc::Global;
 use std::marker::Model;
@@ -34,7 +34,7 @@ use std::marker::Model;
 #[derive(Drop)]
 pub struct OpenBoard {
     pub(crate) setup: Setup,
-    pub(crate) board: Boards,
+    pub(crate) rolling: RollingBoard,
     /// The fields of the record being read. Each field takes at least one byte of the text, a comma or the end.
     pub(crate) row: ByteRecord,
     /// The text of the plan being written.
@@ -42,18 +42,18 @@ pub struct OpenBoard {
 }
 
 impl Model for OpenBoard {
-    ghost use Rattle.nms_calls.specs.Opened.{IsOfRoster, Opened};
+    ghost use Rattle.nms_calls.specs.Opened.{IsHeld, Opened};
 
     ghost Value = { Opened };
 
-    ghost view = { λ o. record { settings = o.setup; board = o.board } };
+    ghost view = { λ o. record { settings = o.setup; board = o.rolling.board; before = o.rolling.before } };
 
-    ghost invariant = { λ o. IsOfRoster (record { settings = o.setup; board = o.board }) };
+    ghost invariant = { λ o. IsHeld (record { settings = o.setup; board = o.rolling.board; before = o.rolling.before }) };
 }
 
 impl OpenBoard {
     ghost use Rattle.nms_fees.specs.Setup.{IsRefused};
-    ghost use Rattle.nms_calls.specs.Opened.{Grew, IsNew, apply_fault, apply_left, confirm_fault, doubt_written, finding, left_on, order_fault, room_fault, sizes_on, sym_fault};
+    ghost use Rattle.nms_calls.specs.Opened.{Grew, GrewBy, HasApplied, HasAppliedSaid, IsNew, apply_fault, order_fault, room_fault, sizes_on, sym_fault, version};
 
     /// Opens an empty board from the text of a setup. A text that is not UTF-8 is no TOML document. `NoMemory` may replace any
     /// other answer.
@@ -62,9 +62,10 @@ impl OpenBoard {
         ensures refused { IfErr result (λ fault. fault ≢ SetupFault.NoMemory → IsRefused text.now fault) }
     {
         let setup = read_setup_bytes(alloc, text)?;
-        let Ok(board) = Boards::new(alloc, setup.roster()) else {
+        let Ok(rolling) = RollingBoard::new(alloc, setup.roster()) else {
             return Err(SetupFault::NoMemory);
         };
+        rolling.board().stands_for_a_tape();
         let (Ok(row), Ok(text)) = (
             ByteRecord::with_capacity(alloc, MOST_PLAN_TEXT, MOST_PLAN_TEXT + 1),
             Vec::with_capacity(alloc, MOST_PLAN_TEXT),
@@ -73,7 +74,7 @@ impl OpenBoard {
         };
         Ok(OpenBoard {
             setup,
-            board,
+            rolling,
             row,
             text,
         })
@@ -83,7 +84,7 @@ impl OpenBoard {
     #[inline(always)]
     pub fn apply(&mut self, numbers: &NmsChange) -> Result<(), CallFault>
         ensures answer { result_err result ≡ apply_fault self.old numbers.now }
-        ensures left { self.new ≡ apply_left self.old numbers.now }
+        ensures applied { OnOk result (HasAppliedSaid numbers.now self.old self.new) }
         ensures unchanged { OnErr result (self.new ≡ self.old) }
         ensures stands { OnOk result (Grew numbers.now self.old self.new) }
     {
@@ -97,17 +98,17 @@ impl OpenBoard {
     #[inline(always)]
     pub(crate) fn apply_change(&mut self, change: Change) -> Result<(), CallFault>
         requires { holds (sizes_on self.old) change ≡ true }
-        ensures answer { result_err result ≡ room_fault self.old (Ok change) }
-        ensures left { self.new ≡ left_on self.old (Ok change) }
+        ensures answer { result_err result ≡ room_fault (version self.old) (Ok change) }
+        ensures applied { OnOk result (HasApplied self.old self.new change) }
         ensures unchanged { OnErr result (self.new ≡ self.old) }
-        ensures stands { (tape : Tape) → StandsFor self.old.board tape → OnOk result (StandsFor self.new.board (tape ++ change ∷ [])) }
+        ensures stands { OnOk result (GrewBy change self.old self.new) }
     {
-        if self.board.applied() >= self.setup.tape_limit() {
+        if self.rolling.version() >= MOST_BEFORE {
             return Err(CallFault::Full);
         }
         // The prover has to see the types of a change before the change moves, so the code mentions them.
         let _seen: (Option<SideQuote>, Option<Lot>) = (None, None);
-        self.board.apply(change);
+        self.rolling.apply(change);
         Ok(())
     }
 
@@ -115,16 +116,17 @@ impl OpenBoard {
     #[inline(always)]
     pub fn best(&self, place: u16, out: &mut NmsBest) -> Result<(), CallFault>
         ensures answer { result_err result ≡ sym_fault self.now place }
-        ensures best { OnOk result (AreBest self.now.board place out.new) }
+        ensures best { OnOk result (AreBest self.now place out.new) }
         ensures unwritten { OnErr result (out.new ≡ out.old) }
     {
         let sym = sym_of(self.setup.roster(), place)?;
         // Each row is written at once, so that the two need not be kept side by side.
-        let bid = best_on(&self.board, Side::Bid, sym);
+        let board = self.rolling.board();
+        let bid = best_on(board, Side::Bid, sym);
         out.bid = NmsRow::of(&bid);
-        let offer = best_on(&self.board, Side::Offer, sym);
+        let offer = best_on(board, Side::Offer, sym);
         out.offer = NmsRow::of(&offer);
-        out.version = self.board.applied();
+        out.version = self.rolling.version();
         out.market = market_number(market_between(bid, offer));
         out.spare = 0;
         Ok(())
@@ -133,16 +135,19 @@ impl OpenBoard {
     /// Plans the order that numbers give, and writes the plan with its certificate. It works in room on its own stack.
     pub fn plan(&self, numbers: &NmsOrder, out: &mut NmsPlan) -> Result<(), CallFault>
         ensures answer { result_err result ≡ order_fault self.now numbers.now }
-        ensures best { OnOk result (IfOk (order_said (sizes_on self.now) numbers.now) (λ order. IsBestPlan self.now.board self.now.settings.fees order out.new)) }
+        ensures best { OnOk result (IfOk (order_said (sizes_on self.now) numbers.now) (λ order. IsBestPlan self.now order out.new)) }
         ensures unwritten { OnErr result (out.new ≡ out.old) }
     {
         let order = order_of(self.setup.roster(), numbers)?;
         let fees = self.setup.fees();
-        let mut planner = Planner::new();
-        planner.plan_on(&self.board, &order, fees);
-        let plan = planner.plan();
-        an_accepted_plan_is_within_bounds(&order, fees, plan);
-        put_plan(plan, planner.certificate(), out);
+        let version = self.rolling.version();
+        let mut plan = no_plan(&order);
+        let mut cuts = ArrayVec::new_in(());
+        plan_on(self.rolling.board(), &order, fees, &mut plan, &mut cuts);
+        an_accepted_plan_is_within_bounds(&order, fees, &plan);
+        put_plan(&plan, &cuts, out);
+        // The plan has the version that its board counts.
+        out.version = version;
         Ok(())
     }
 
@@ -157,9 +162,18 @@ impl OpenBoard {
         ensures written { out.new ≡ doubt_written out.old (finding self.now numbers.now plan.now) }
     {
         let order = order_of(self.setup.roster(), numbers)?;
-        let (plan, certificate) = plan_of(self.setup.roster(), &order, plan)?;
-        let view = self.board.view(order.sym);
-        match confirm(&view, &order, self.setup.fees(), &plan, &certificate) {
+        let mut read = no_plan(&order);
+        let mut certificate = ArrayVec::new_in(());
+        read_into(
+            self.setup.roster(),
+            &order,
+            plan,
+            &mut read,
+            &mut certificate,
+        )?;
+        read.version = self.own_version(read.version);
+        let board = self.rolling.board();
+        match confirm_on(board, &order, self.setup.fees(), &read, &certificate) {
             Ok(()) => {
                 *out = NmsDoubt::none();
                 Ok(())
@@ -168,6 +182,17 @@ impl OpenBoard {
                 *out = NmsDoubt::of(doubt);
                 Err(CallFault::Doubted)
             }
+        }
+    }
+
+    /// A plan's version as the board counts it: a number that no board counts to, if the plan is of another version.
+    fn own_version(&self, planned: u64) -> u64
+        ensures { (result == self.now.board.applied) ≡ (planned == version self.now) }
+    {
+        if planned == self.rolling.version() {
+            self.rolling.board().applied()
+        } else {
+            u64::MAX
         }
     }
 }

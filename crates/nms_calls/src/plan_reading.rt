@@ -1,5 +1,5 @@
 //! A plan and its certificate read from numbers: `specs/PlanSaid`.
-ghost use Rattle.std.specs.Prelude.{◌≡◌, ◌≤◌, map, length, true, Ok, Err, MatchResult};
+ghost use Rattle.std.specs.Prelude.{◌≡◌, ◌≤◌, [], map, length, true, Ok, Err, MatchResult, OnErr};
 ghost use Rattle.std.specs.List.{list_all};
 ghost use Rattle.nms_calls.specs.PlanNumbers.{cost_said};
 ghost use Rattle.nms_calls.specs.PlanSaid.{cut_said, is_cut, is_leg, is_there, kind_said, leg_said, plan_said};
@@ -19,6 +19,38 @@ pub(crate) fn plan_of(
     ensures { MatchResult result (λ made. plan_said (length roster.now.parts) order.now numbers.now ≡ Ok (record { plan = made.0; cuts = made.1.items }))
         (λ fault. plan_said (length roster.now.parts) order.now numbers.now ≡ Err fault) }
 {
+    let mut plan = no_plan(order);
+    let mut cuts = ArrayVec::new_in(());
+    read_into(roster, order, numbers, &mut plan, &mut cuts)?;
+    Ok((plan, cuts))
+}
+
+/// A plan for an order that fills nothing, to be read into.
+pub(crate) fn no_plan(order: &Order) -> Plan
+    ensures filled { result.filled ≡ 0 }
+    ensures legs { result.legs.items ≡ [] }
+{
+    Plan {
+        version: 0,
+        order: *order,
+        legs: ArrayVec::new_in(()),
+        filled: 0,
+        cost: Money::new(0),
+    }
+}
+
+/// As `plan_of`, but the plan and its certificate replace the ones there. They stay at a fault.
+pub(crate) fn read_into(
+    roster: &Roster,
+    order: &Order,
+    numbers: &NmsPlan,
+    plan: &mut Plan,
+    certificate: &mut Certificate,
+) -> Result<(), CallFault>
+    ensures read { MatchResult result (λ _. plan_said (length roster.now.parts) order.now numbers.now ≡ Ok (record { plan = plan.new; cuts = certificate.new.items }))
+        (λ fault. plan_said (length roster.now.parts) order.now numbers.now ≡ Err fault) }
+    ensures unwritten { OnErr result ((plan.new ≡ plan.old) × (certificate.new ≡ certificate.old)) }
+{
     let (legs, cuts) = (numbers.legs as usize, numbers.cuts as usize);
     if legs > 32 || cuts > 32 {
         return Err(CallFault::Range);
@@ -30,14 +62,13 @@ pub(crate) fn plan_of(
     if !are_there(roster, legs) {
         return Err(CallFault::NoParticipant);
     }
-    let plan = Plan {
-        version: numbers.version,
-        order: *order,
-        legs: legs_of(roster.parts(), legs),
-        filled: numbers.filled,
-        cost: cost_of(numbers),
-    };
-    Ok((plan, cuts_of(cuts)))
+    plan.version = numbers.version;
+    plan.order = *order;
+    read_legs(roster.parts(), legs, &mut plan.legs);
+    plan.filled = numbers.filled;
+    plan.cost = cost_of(numbers);
+    read_cuts(cuts, certificate);
+    Ok(())
 }
 
 /// The amount of the two numbers of a cost.
@@ -79,34 +110,32 @@ fn is_cut(cut: &NmsCut) -> bool
     Price::new(cut.price).is_some() && cut.kind <= 2
 }
 
-/// The legs that numbers give, of n participants.
-fn legs_of(parts: usize, numbers: &[NmsLeg]) -> ArrayVec<Leg, 32>
+/// Puts the legs that numbers give, of n participants, in place of those there.
+fn read_legs(parts: usize, numbers: &[NmsLeg], legs: &mut ArrayVec<Leg, 32>)
     requires parts { parts ≤ 32 }
     requires few { length numbers.now ≤ 32 }
     requires range { list_all is_leg numbers.now ≡ true }
     requires there { list_all (is_there parts) numbers.now ≡ true }
-    ensures { result.items ≡ map leg_said numbers.now }
+    ensures { legs.new.items ≡ map leg_said numbers.now }
 {
-    let mut legs = ArrayVec::new_in(());
+    legs.clear();
     for leg in numbers {
         legs.push(leg_of(parts, leg));
     }
-    legs
 }
 
-/// The cuts given by their numbers.
-fn cuts_of(numbers: &[NmsCut]) -> Certificate
+/// Puts the cuts given by their numbers in place of those there.
+fn read_cuts(numbers: &[NmsCut], cuts: &mut Certificate)
     requires few { length numbers.now ≤ 32 }
     requires range { list_all is_cut numbers.now ≡ true }
-    ensures { result.items ≡ map cut_said numbers.now }
+    ensures { cuts.new.items ≡ map cut_said numbers.now }
 {
     // The prover has to see the type of a cut before a cut is pushed, so the code mentions it.
     let _seen: Option<CutKind> = None;
-    let mut cuts = ArrayVec::new_in(());
+    cuts.clear();
     for cut in numbers {
         cuts.push(cut_of(cut));
     }
-    cuts
 }
 
 /// The leg that numbers give, of n participants.

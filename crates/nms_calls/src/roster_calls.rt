@@ -1,5 +1,5 @@
 //! What a board holds, and the names of a setup for numbers: `specs/Named`.
-ghost use Rattle.std.specs.Prelude.{◌≡◌, ◌-◌, Some, OnErr, OnOk};
+ghost use Rattle.std.specs.Prelude.{◌≡◌, Some, OnErr, OnOk};
 ghost use Rattle.std.specs.Result.{result_err};
 ghost use Rattle.nms_quote.specs.Roster.{part_text, place_in, symbol_text};
 ghost use Rattle.nms_calls.specs.Named.{absent, counts_of, part_name_fault, sym_name_fault};
@@ -10,6 +10,7 @@ use crate::change_reading::{part_of, sym_of};
 use crate::open_board::OpenBoard;
 use crate::text_writing::put_text;
 use nms_fees::Setup;
+use nms_opening::MOST_BEFORE;
 
 /// What a board holds.
 #[repr(C)]
@@ -17,7 +18,7 @@ use nms_fees::Setup;
 pub struct NmsCounts {
     /// How many changes were applied.
     pub applied: u64,
-    /// How many may still be, by the setup's limit of the tape.
+    /// How many may still be: together they are 2^63. The setup's limit of the tape does not count here.
     pub room: u64,
     /// How many participants there are.
     pub parts: u32,
@@ -30,9 +31,10 @@ impl OpenBoard {
     pub fn counts(&self) -> NmsCounts
         ensures { result ≡ counts_of self.now }
     {
+        let applied = self.rolling.version();
         NmsCounts {
-            applied: self.board.applied(),
-            room: room_left(self.setup.tape_limit(), self.board.applied()),
+            applied,
+            room: MOST_BEFORE - applied,
             parts: self.setup.roster().parts() as u32,
             syms: self.setup.roster().syms() as u32,
         }
@@ -104,11 +106,4 @@ pub fn sym_name(
 {
     let sym = sym_of(setup.roster(), place)?;
     put_text(setup.roster().sym_name(sym).as_bytes(), out, bytes)
-}
-
-/// How many more there may be.
-fn room_left(most: u64, applied: u64) -> u64
-    ensures { result ≡ most - applied }
-{
-    if applied < most { most - applied } else { 0 }
 }

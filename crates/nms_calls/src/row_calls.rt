@@ -24,7 +24,7 @@ impl OpenBoard {
             return Err(CallFault::Range);
         };
         let sym = sym_of(self.setup.roster(), sym)?;
-        match self.board.ranked(side, sym, place) {
+        match self.rolling.board().ranked(side, sym, place) {
             Some(row) => {
                 *out = NmsRow::some(&row);
                 Ok(())

@@ -11,7 +11,8 @@ use nms_nbbo::Market;
 pub struct NmsRow {
     /// In 1/10,000 dollar.
     pub price: u64,
-    /// The number of the change that last altered the side's price or shares.
+    /// Receipts of one symbol are in the order of the changes that last altered a side's price or shares. Each is from 1 on, and
+    /// at most the version. Until 9,990,000 changes were applied it is the number of that change.
     pub receipt: u64,
     /// In shares: whole round lots, at least one.
     pub size: u32,

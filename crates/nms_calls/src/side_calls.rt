@@ -15,7 +15,7 @@ use crate::open_board::OpenBoard;
 use crate::opening_numbers::NmsOpening;
 use crate::row_calls::market_side_of;
 use crate::row_numbers::{NmsRows, NmsThrough, NmsView, market_number};
-use crate::side_writing::{put_rows, put_side, through_at};
+use crate::side_writing::{put_side, put_through};
 use nms_nbbo::market_between;
 use nms_quote::Side;
 
@@ -30,46 +30,43 @@ impl OpenBoard {
             return Err(CallFault::Range);
         };
         let sym = sym_of(self.setup.roster(), sym)?;
-        put_side(&self.board, side, sym, out);
+        put_side(self.rolling.board(), side, sym, out);
         Ok(())
     }
 
     /// Writes both sides of a symbol, with the state of its market.
     pub fn view(&self, sym: u16, out: &mut NmsView) -> Result<(), CallFault>
         ensures answer { result_err result ≡ sym_fault self.now sym }
-        ensures view { OnOk result (IsView self.now.board sym out.new) }
+        ensures view { OnOk result (IsView self.now sym out.new) }
         ensures unwritten { OnErr result (out.new ≡ out.old) }
     {
         let sym = sym_of(self.setup.roster(), sym)?;
-        let bid = self.board.ranked(Side::Bid, sym, 0);
-        let offer = self.board.ranked(Side::Offer, sym, 0);
-        out.version = self.board.applied();
+        let board = self.rolling.board();
+        let bid = board.ranked(Side::Bid, sym, 0);
+        let offer = board.ranked(Side::Offer, sym, 0);
+        out.version = self.rolling.version();
         out.market = market_number(market_between(bid, offer));
         out.sym = sym.get();
         out.spare = 0;
-        put_side(&self.board, Side::Bid, sym, &mut out.bid);
-        put_side(&self.board, Side::Offer, sym, &mut out.offer);
+        put_side(board, Side::Bid, sym, &mut out.bid);
+        put_side(board, Side::Offer, sym, &mut out.offer);
         Ok(())
     }
 
     /// Writes the protected quotations that a price in 1/1,000,000 dollar trades through.
     pub fn through(&self, sym: u16, millionths: u64, out: &mut NmsThrough) -> Result<(), CallFault>
         ensures answer { result_err result ≡ through_fault self.now sym millionths }
-        ensures through { OnOk result (AreThrough self.now.board sym millionths out.new) }
+        ensures through { OnOk result (AreThrough self.now sym millionths out.new) }
         ensures unwritten { OnErr result (out.new ≡ out.old) }
     {
         if millionths < 1 || millionths > MOST_MILLIONTHS {
             return Err(CallFault::Range);
         }
         let sym = sym_of(self.setup.roster(), sym)?;
-        let view = self.board.view(sym);
-        let bids = through_at(Side::Bid, millionths, view.rows(Side::Bid));
-        let offers = through_at(Side::Offer, millionths, view.rows(Side::Offer));
-        out.version = self.board.applied();
-        out.bids = bids.len() as u32;
-        out.offers = offers.len() as u32;
-        put_rows(bids.as_slice(), &mut out.bid);
-        put_rows(offers.as_slice(), &mut out.offer);
+        let board = self.rolling.board();
+        out.version = self.rolling.version();
+        out.bids = put_through(board, Side::Bid, sym, millionths, &mut out.bid);
+        out.offers = put_through(board, Side::Offer, sym, millionths, &mut out.offer);
         Ok(())
     }
 
@@ -80,7 +77,7 @@ impl OpenBoard {
         ensures unwritten { OnErr result (out.new ≡ out.old) }
     {
         let sym = sym_of(self.setup.roster(), sym)?;
-        put_opening(&self.board, sym, out);
+        put_opening(self.rolling.board(), sym, out);
         Ok(())
     }
 }

@@ -1,5 +1,6 @@
 //! The rows of a side written as arrays: `specs/RowNumbers`.
-ghost use Rattle.std.specs.Prelude.{◌≡◌, ◌<◌, ◌≤◌, length, slice_get};
+ghost use Rattle.std.specs.Prelude.{◌≡◌, ◌+◌, ◌++◌, ◌<◌, ◌≤◌, List, [], length, slice_get};
+ghost use Rattle.std.specs.List.{cons_option};
 ghost use Rattle.nms_board.specs.Shown.{rows_held};
 ghost use Rattle.nms_board.specs.declared.row.Row.{Row};
 ghost use Rattle.nms_calls.specs.RowNumbers.{AreRanked, AreRowsAt, row_numbers, through_at, is_through_at, is_beyond, with_row};
@@ -7,7 +8,7 @@ ghost use Rattle.nms_calls.specs.RowNumbers.{AreRanked, AreRowsAt, row_numbers, 
 use crate::row_numbers::{NmsRow, NmsRows};
 use arrayvec::ArrayVec;
 use nms_board::{Boards, Row};
-use nms_quote::{Side, Sym};
+use nms_quote::{Part, Side, Sym};
 use nms_units::Price;
 
 /// Writes the rows of a side in rank order, with their total size.
@@ -31,7 +32,7 @@ pub(crate) fn put_side(board: &Boards, side: Side, sym: Sym, out: &mut NmsRows)
 }
 
 /// Writes the numbers of a row at a place.
-fn put_at(out: &mut NmsRows, place: usize, row: &NmsRow)
+pub(crate) fn put_at(out: &mut NmsRows, place: usize, row: &NmsRow)
     requires { place < 32 }
     ensures { out.new ≡ with_row out.old place row.now }
 {
@@ -52,7 +53,7 @@ pub(crate) fn put_rows(rows: &[Row], places: &mut [NmsRow; 32])
 }
 
 /// The numbers of the row at a place, all 0 if there is none.
-fn row_at(rows: &[Row], place: usize) -> NmsRow
+pub(crate) fn row_at(rows: &[Row], place: usize) -> NmsRow
     ensures { result ≡ row_numbers (slice_get rows.now place) }
 {
     match rows.get(place) {
@@ -73,6 +74,54 @@ pub(crate) fn through_at(side: Side, millionths: u64, rows: &[Row]) -> ArrayVec<
         }
     }
     through
+}
+
+/// Writes the rows of `through_at` to the first places, and none to the others, but of the rows that a look at a board shows
+/// on a side. They are read off the board, with no view made. Returns how many there are.
+pub(crate) fn put_through(
+    board: &Boards,
+    side: Side,
+    sym: Sym,
+    millionths: u64,
+    places: &mut [NmsRow; 32],
+) -> u32
+    requires { sym < length board.now.sizes.lots }
+    ensures count { result ≡ length (through_at side millionths (rows_held board.now sym side)) }
+    ensures rows { AreRowsAt places.new (through_at side millionths (rows_held board.now sym side)) }
+{
+    places.fill(NmsRow::none());
+    let mut count = 0;
+    for place in 0..board.parts() {
+        let row = board.row(side, Part::new(place).unwrap(), sym);
+        count = put_next(side, millionths, row, count, places);
+    }
+    count as u32
+}
+
+/// Writes a row behind the first n places, if there is one and a price in 1/1,000,000 dollar trades through it. Returns how many
+/// places have rows then.
+#[inline(always)]
+fn put_next(
+    side: Side,
+    millionths: u64,
+    row: Option<Row>,
+    count: usize,
+    places: &mut [NmsRow; 32],
+) -> usize
+    requires { count < 32 }
+    ensures count { result ≡ count + length (through_at side millionths (cons_option row [])) }
+    ensures within { result ≤ count + 1 }
+    ensures rows { (rows : List Row) → length rows ≡ count → AreRowsAt places.old rows
+        → AreRowsAt places.new (rows ++ through_at side millionths (cons_option row [])) }
+{
+    let Some(row) = row else {
+        return count;
+    };
+    if !is_through(side, millionths, &row) {
+        return count;
+    }
+    places[count] = NmsRow::some(&row);
+    count + 1
 }
 
 /// Whether a row is protected and beyond a price in 1/1,000,000 dollar.

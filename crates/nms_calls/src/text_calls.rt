@@ -7,8 +7,9 @@ ghost use Rattle.nms_lines.specs.Layout.{Record};
 ghost use Rattle.nms_lines.specs.PlanReading.{plan_in};
 ghost use Rattle.nms_lines.specs.PlanText.{plan_text};
 ghost use Rattle.nms_lines.specs.Records.{AreAllRecords};
-ghost use Rattle.nms_calls.specs.Opened.{made_said, sizes_on};
-ghost use Rattle.nms_calls.specs.RecordSaid.{PlanRead, are_narrow, change_of_line, fields_in, order_numbers, plan_text_fault, record_fault, record_left, record_said, side_number};
+ghost use Rattle.nms_calls.specs.Findings.{made_said};
+ghost use Rattle.nms_calls.specs.Opened.{sizes_on};
+ghost use Rattle.nms_calls.specs.RecordSaid.{HasAppliedRecord, PlanRead, are_narrow, change_of_line, fields_in, order_numbers, plan_text_fault, record_fault, record_said, side_number};
 ghost use Rattle.nms_calls.specs.Written.{IsWritten};
 
 use crate::call_fault::CallFault;
@@ -34,7 +35,7 @@ impl OpenBoard {
     /// bytes is out of range.
     pub fn apply_record(&mut self, text: &[u8]) -> Result<(), CallFault>
         ensures answer { result ≢ Err (CallFault.Setup SetupFault.NoMemory) → result_err result ≡ record_fault self.old text.now }
-        ensures left { OnOk result (self.new ≡ record_left self.old text.now) }
+        ensures applied { OnOk result (HasAppliedRecord text.now self.old self.new) }
         ensures unchanged { OnErr result (self.new ≡ self.old) }
     {
         let change = self.change_in(text)?;

@@ -41,8 +41,10 @@ is_followed (change.State part sym state) carried = nat_lt sym carried
 is_followed (change.Withdraw part) carried = true
 is_followed (change.Lot sym lot) carried = nat_lt sym carried
 
--- one change was taken: the version is one more, and each symbol shows what the board before it would show after the change
+-- one change was taken: the version is one more, and each symbol shows what the board before it would show after the change.
+-- Far from the limit it is that board, with its receipts
 pub record HasTaken (old new : Rolled) (taken : Change) : Type 0 where
   pub counted : version new ≡ version old + 1
   pub roster : new.board.sizes ≡ old.board.sizes
   pub alike : (sym : ℕ) → sym < length old.board.sizes.lots → ShowAlike (after old.board taken) new.board sym
+  pub exact : old.board.applied + 1 < ROLLS_AT → new ≡ record { board = after old.board taken; before = old.before }

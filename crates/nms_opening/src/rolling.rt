@@ -17,6 +17,7 @@ use std::mem;
 
 /// A board that takes changes without end. Each change takes about as long as that of a plain board: near the limit of its changes
 /// the board also brings one symbol to the next board, which takes its place when it has all symbols.
+#[derive(Drop)]
 pub struct RollingBoard {
     board: Boards,
     next: Boards,
@@ -127,6 +128,9 @@ fn is_followed(change: &Change, carried: u16) -> bool
 }
 
 /// Brings the opening changes of one symbol more to the next board.
+///
+/// Not inlined: the room of its list would be in the frame of each change.
+#[inline(never)]
 fn bring(board: &Boards, next: &mut Boards, carried: u16)
     requires carrying { IsCarrying board.now next.old carried }
     requires within { carried < length board.now.sizes.lots }

@@ -462,13 +462,17 @@ unsafe extern "C" {
     pub fn nms_raw_sym_name(look: *mut nms_board, sym: u16, out: *mut u8, room: usize, bytes: *mut usize) -> u32;
     pub fn nms_raw_apply(board: *mut nms_board, change: *const nms_change) -> u32;
     pub fn nms_raw_apply_all(board: *mut nms_board, changes: *const nms_change, count: usize, applied: *mut usize) -> u32;
+    pub fn nms_raw_apply_best(board: *mut nms_board, changes: *const nms_change, count: usize, best: *mut nms_best, places: usize, applied: *mut usize) -> u32;
     pub fn nms_raw_apply_text(board: *mut nms_board, record: *const u8, record_bytes: usize) -> u32;
+    pub fn nms_raw_apply_lines(board: *mut nms_board, text: *const u8, text_bytes: usize, applied: *mut usize, at: *mut usize) -> u32;
     pub fn nms_raw_best_of(look: *mut nms_board, sym: u16, best: *mut nms_best) -> u32;
+    pub fn nms_raw_best_all(look: *mut nms_board, syms: *const u16, count: usize, best: *mut nms_best, places: usize, done: *mut usize) -> u32;
     pub fn nms_raw_ranked(look: *mut nms_board, sym: u16, side: u8, place: u8, row: *mut nms_row) -> u32;
     pub fn nms_raw_rows_of(look: *mut nms_board, sym: u16, side: u8, rows: *mut nms_rows) -> u32;
     pub fn nms_raw_view_of(look: *mut nms_board, sym: u16, view: *mut nms_view) -> u32;
     pub fn nms_raw_traded_through(look: *mut nms_board, sym: u16, millionths: u64, through: *mut nms_through) -> u32;
     pub fn nms_raw_plan_order(look: *mut nms_board, order: *const nms_order, plan: *mut nms_plan) -> u32;
+    pub fn nms_raw_plan_all(look: *mut nms_board, orders: *const nms_order, count: usize, plan: *mut nms_plan, places: usize, done: *mut usize) -> u32;
     pub fn nms_raw_confirm(look: *mut nms_board, order: *const nms_order, plan: *const nms_plan, doubt: *mut nms_doubt) -> u32;
     pub fn nms_raw_unit_cost(look: *mut nms_board, part: u8, side: u8, price: u64, nanodollars: *mut i64) -> u32;
     pub fn nms_raw_plan_text(board: *mut nms_board, order: *const nms_order, plan: *const nms_plan, out: *mut u8, room: usize, bytes: *mut usize) -> u32;
@@ -483,4 +487,5 @@ unsafe extern "C" {
     pub fn nms_raw_plan_view(look: *mut nms_terms, view: *const nms_view, order: *const nms_order, plan: *mut nms_plan) -> u32;
     pub fn nms_raw_confirm_view(look: *mut nms_terms, view: *const nms_view, order: *const nms_order, plan: *const nms_plan, doubt: *mut nms_doubt) -> u32;
     pub fn nms_raw_through_view(view: *const nms_view, millionths: u64, through: *mut nms_through) -> u32;
+    pub fn nms_raw_reduce_view(view: *const nms_view, side: u8, most: *const u32, reduced: *mut nms_view) -> u32;
 }

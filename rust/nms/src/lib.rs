@@ -37,7 +37,7 @@ use std::fmt;
 use std::ptr::null_mut;
 
 pub use nms_sys;
-pub use sys::{nms_change as RawChange, nms_counts as Counts, nms_doubt as Doubt, nms_order as RawOrder, nms_place as Place, nms_plan as RawPlan, nms_view as View};
+pub use sys::{nms_best as RawBest, nms_change as RawChange, nms_counts as Counts, nms_doubt as Doubt, nms_order as RawOrder, nms_place as Place, nms_plan as RawPlan, nms_view as View};
 
 /// A call that was refused.
 #[derive(Clone, Copy, Debug, PartialEq, Eq, Hash)]
@@ -53,7 +53,7 @@ pub enum Error {
     NoPart,
     /// No such symbol on the roster.
     NoSym,
-    /// The board has as many changes as its setup allows.
+    /// The board has taken 2^63 changes. Its setup's `tape_limit` does not count here.
     Full,
     /// The library has another layout than this crate.
     WrongAbi,
@@ -138,6 +138,7 @@ fn must_fit() -> Result<()> {
 pub struct Part(pub u8);
 
 /// A symbol's number on the roster of a board.
+#[repr(transparent)]
 #[derive(Clone, Copy, Debug, PartialEq, Eq, PartialOrd, Ord, Hash)]
 pub struct Sym(pub u16);
 
@@ -209,7 +210,8 @@ pub struct Row {
     pub price: u64,
     /// Shares, whole round lots.
     pub size: u32,
-    /// The number of the change that last altered price or shares.
+    /// In the order of the changes of the symbol that last altered a side's price or shares, at most the version. Until
+    /// 9,990,000 changes were applied it is the number of that change.
     pub receipt: u64,
     /// Whether it is automated, and so protected.
     pub is_protected: bool,
@@ -259,6 +261,15 @@ impl Through {
         let rows = |rows: &[sys::nms_row]| rows.iter().filter_map(Row::of).collect();
         Through { version: it.version, bids: rows(&it.bid), offers: rows(&it.offer) }
     }
+}
+
+/// A view with at most `most[n]` shares of participant n on one side: for shares that one's own orders have taken, and that the
+/// quotes still show. A buyer reduces the offers.
+pub fn reduced(view: &View, side: Side, most: &[u32; sys::NMS_MOST_PARTS]) -> Result<View> {
+    let mut left = View::default();
+    // SAFETY: all three pointers are those of references, which live through the call, and `most` has as many numbers as it reads.
+    must(unsafe { sys::nms_raw_reduce_view(view, side as u8, most.as_ptr(), &mut left) })?;
+    Ok(left)
 }
 
 /// A change of the board. A side is a price and shares, or none.
@@ -317,6 +328,7 @@ impl From<Change> for RawChange {
 }
 
 /// What is to be traded.
+#[repr(transparent)]
 #[derive(Clone, Copy, Debug, PartialEq, Eq)]
 pub struct Order(RawOrder);
 
@@ -473,9 +485,25 @@ impl Board {
         (applied, must(code))
     }
 
+    /// As [`Board::apply_all`], and writes the best rows of each change's symbol after it; of a withdrawal too. There has to be a
+    /// place for each change.
+    pub fn apply_best(&mut self, changes: &[RawChange], best: &mut [RawBest]) -> (usize, Result<()>) {
+        let mut applied = 0;
+        let code = unsafe { sys::nms_raw_apply_best(&mut self.0, changes.as_ptr(), changes.len(), best.as_mut_ptr(), best.len(), &mut applied) };
+        (applied, must(code))
+    }
+
     /// Applies the change that a record says, as `Q,N,ABC,A,10.01,300,10.03,200`, without its end of line.
     pub fn apply_text(&mut self, record: &str) -> Result<()> {
         must(unsafe { sys::nms_raw_apply_text(&mut self.0, record.as_ptr(), record.len()) })
+    }
+
+    /// Applies the changes that the lines of a text say, as a file of changes has them, in order up to the first that is refused: how
+    /// many were applied, the byte where the next line begins, and why that one was not applied.
+    pub fn apply_lines(&mut self, text: impl AsRef<[u8]>) -> (usize, usize, Result<()>) {
+        let (text, mut applied, mut at) = (text.as_ref(), 0, 0);
+        let code = unsafe { sys::nms_raw_apply_lines(&mut self.0, text.as_ptr(), text.len(), &mut applied, &mut at) };
+        (applied, at, must(code))
     }
 
     /// The best bid and the best offer of a symbol.
@@ -483,6 +511,14 @@ impl Board {
         let mut best = sys::nms_best::default();
         must(unsafe { sys::nms_raw_best_of(&mut self.look(), sym.0, &mut best) })?;
         Ok(Best { version: best.version, bid: Row::of(&best.bid), offer: Row::of(&best.offer), market: Market::of(best.market) })
+    }
+
+    /// Writes the best rows of each symbol, up to the first that is refused: how many were written, and why the next one was not.
+    /// There has to be a place for each symbol.
+    pub fn best_all(&self, syms: &[Sym], best: &mut [RawBest]) -> (usize, Result<()>) {
+        let mut done = 0;
+        let code = unsafe { sys::nms_raw_best_all(&mut self.look(), syms.as_ptr().cast(), syms.len(), best.as_mut_ptr(), best.len(), &mut done) };
+        (done, must(code))
     }
 
     /// The rows of one side of a symbol in rank order, best first.
@@ -528,6 +564,14 @@ impl Board {
         let mut raw = RawPlan::default();
         must(unsafe { sys::nms_raw_plan_order(&mut self.look(), &order.0, &mut raw) })?;
         Ok(Plan { order: order.0, raw })
+    }
+
+    /// Writes a plan for each order on the board as it is, up to the first that is refused: how many were planned, and why the next
+    /// one was not. Two plans may take the same shares. There has to be a place for each order.
+    pub fn plan_all(&self, orders: &[Order], plans: &mut [RawPlan]) -> (usize, Result<()>) {
+        let mut done = 0;
+        let code = unsafe { sys::nms_raw_plan_all(&mut self.look(), orders.as_ptr().cast(), orders.len(), plans.as_mut_ptr(), plans.len(), &mut done) };
+        (done, must(code))
     }
 
     /// Whether a plan is lawful and the best one for its order on this board: nothing if it is, else why not.

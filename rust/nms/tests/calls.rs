@@ -1,6 +1,6 @@
 //! Each call of the crate, right and with each wrong argument.
 
-use nms::{setup_place, version, Board, Change, Error, Market, Order, OrderSide, Part, Plan, Side, State, Sym, Terms, Through, View};
+use nms::{reduced, setup_place, version, Board, Change, Error, Market, Order, OrderSide, Part, Plan, RawBest, RawPlan, Side, State, Sym, Terms, Through, View};
 
 const SETUP: &str = r#"
 tape_limit = 1000
@@ -109,6 +109,10 @@ fn changes() {
     assert_eq!(board.view(ABC).expect("a look"), before, "a refused change alters nothing");
     assert_eq!(board.apply_all(&[quote().into(), half.into(), quote().into()]), (1, Err(Error::Range)));
     assert_eq!(board.apply_all(&[]), (0, Ok(())));
+    assert_eq!(board.apply_lines("X,N\r\nX,P\nX,NONE\nX,N\n"), (2, 9, Err(Error::Record(3))));
+    assert_eq!(board.apply_lines(b"S,N,ABC,A\nQ,N,ABC,A,9.99,200,10.00,300"), (2, 38, Ok(())));
+    assert_eq!(board.apply_lines("Q,P,ABC,A,9.98,700,10.00,500\n"), (1, 29, Ok(())));
+    assert_eq!(board.apply_lines(""), (0, 0, Ok(())));
     let mut next = Board::open(SETUP).expect("a setup");
     assert!(next.apply_all(&board.opening(ABC).expect("an opening")).1.is_ok());
     assert_eq!(next.rows(ABC, Side::Bid).map(|it| it.len()), Ok(2));
@@ -141,6 +145,22 @@ fn plans() {
 }
 
 #[test]
+fn many() {
+    let mut board = board();
+    let mut best = [RawBest::default(); 3];
+    assert_eq!(board.best_all(&[Sym(1), ABC, STRANGE_SYM], &mut best), (2, Err(Error::NoSym)));
+    assert_eq!((best[1].offer.price, best[2]), (100_000, RawBest::default()));
+    assert_eq!(board.best_all(&[ABC; 4], &mut best), (0, Err(Error::Other(19))), "no place for the fourth");
+    let mut plans = [RawPlan::default(); 2];
+    assert_eq!(board.plan_all(&[order(), Order::new(OrderSide::Buy, ABC, 0, 1)], &mut plans), (1, Err(Error::Range)));
+    assert_eq!(&plans[0], board.plan(order()).expect("a plan").as_raw().1);
+    let withdrawn = Change::Withdraw { part: N };
+    assert_eq!(board.apply_best(&[quote().into(), withdrawn.into(), Change::Withdraw { part: STRANGE_PART }.into()], &mut best), (2, Err(Error::NoPart)));
+    assert_eq!((best[0].version, best[0].bid.part, best[1].version, best[1].bid.part), (3, 0, 4, 1));
+    assert_eq!(board.apply_best(&[], &mut []), (0, Ok(())));
+}
+
+#[test]
 fn views() {
     let (board, terms) = (board(), Terms::open(SETUP).expect("a setup"));
     let view = board.view(ABC).expect("a look");
@@ -156,4 +176,13 @@ fn views() {
     assert_eq!(terms.confirm(&torn, &plan), Err(Error::NoView));
     assert_eq!(Through::of(&torn, 1), Err(Error::NoView));
     assert_eq!(terms.plan(&View::default(), order()).map(|it| it.filled()), Ok(0), "a view of nothing");
+    let mut most = [u32::MAX; 32];
+    assert_eq!(reduced(&view, Side::Offer, &most), Ok(view), "nothing is taken");
+    most[0] = 40;
+    most[1] = 0;
+    let left = reduced(&view, Side::Offer, &most).expect("a view");
+    assert_eq!((left.bid, left.offer.count, left.offer.total), (view.bid, 1, 40));
+    let plan = terms.plan(&left, order()).expect("a plan");
+    assert_eq!((plan.filled(), terms.confirm(&left, &plan)), (40, Ok(None)));
+    assert_eq!(reduced(&torn, Side::Offer, &most), Err(Error::NoView));
 }

@@ -40,11 +40,14 @@ returns-then-applied-eq-ROLLS_AT c =
       roster = c.go_over-self-inside.ensures.roster ∙ sizes;
       alike = λ symbol in_syms. subst (λ (b : Board). ShowAlike b then.board symbol) c.apply.ensures.after
           (c.go_over-self-inside.ensures.alike symbol (subst (λ (s : Sizes). symbol < length s.lots) (sym sizes) in_syms));
+      exact = λ far. absurd (omega (arith, far, one_more, c.if-applied-eq-ROLLS_AT.true, c.applied.ensures.count));
     })
 
 pub returns-in-Some : goal.returns-in-Some
 returns-in-Some c =
     let then = c.go_over-self-inside-in-Some.new in
+    let ready : IsReady c.self.inside.board c.self.inside.next (Some c.in-Some.carried) =
+    subst (λ (carried : Option ℕ). IsReady c.self.inside.board c.self.inside.next carried) c.in-Some.is c.self.invariant in
     let both = c.apply_both.new.board in
     let sizes : both.sizes ≡ c.self.inside.board.sizes = ap (λ (b : Board). b.sizes) c.apply_both.ensures.after in
     let one_more : both.applied ≡ c.self.inside.board.applied + 1 = ap (λ (b : Board). b.applied) c.apply_both.ensures.after in
@@ -53,4 +56,5 @@ returns-in-Some c =
       roster = c.go_over-self-inside-in-Some.ensures.roster ∙ sizes;
       alike = λ symbol in_syms. subst (λ (b : Board). ShowAlike b then.board symbol) c.apply_both.ensures.after
           (c.go_over-self-inside-in-Some.ensures.alike symbol (subst (λ (s : Sizes). symbol < length s.lots) (sym sizes) in_syms));
+      exact = λ far. absurd (omega (arith, far, ready.1.board_many));
     })

@@ -1,0 +1,31 @@
+//! The laws above a reduced view: `specs/ReducedLaws`. The functions do nothing: their contracts are the laws.
+ghost use Rattle.nms_calls.specs.ReducedExamples.{ExampleHolds};
+ghost use Rattle.nms_calls.specs.ReducedLaws.{LawfulPlansTakeNoMore, NumbersSayOneView, PlansAreOnTheReducedView, ReducedNumbersAreReadSo, ReducedNumbersSayTheView};
+
+/// Numbers say at most one view, on rosters of any size.
+pub fn numbers_say_one_view()
+    ensures { NumbersSayOneView }
+{}
+
+/// The numbers that `reduce_view` writes say the reduced view, on each roster on which the numbers that it read said a view. So
+/// `plan_view`, `confirm_view` and `through_view` read it there.
+pub fn reduced_numbers_say_the_view()
+    ensures said { ReducedNumbersSayTheView }
+    ensures read { ReducedNumbersAreReadSo }
+{}
+
+/// What `plan_view` answers and writes for those numbers is a plan on the reduced view: the best lawful one there.
+pub fn a_plan_is_on_the_reduced_view()
+    ensures { PlansAreOnTheReducedView }
+{}
+
+/// A lawful plan on the reduced view sends no participant more than its number of shares, if the side that is reduced is the
+/// one that the order trades with. Each plan that `plan_view` writes is lawful, and each that `confirm_view` confirms.
+pub fn a_lawful_plan_takes_no_more()
+    ensures { LawfulPlansTakeNoMore }
+{}
+
+/// The definitions give what the worked example says.
+pub fn worked_example()
+    ensures { ExampleHolds }
+{}
