@@ -13,7 +13,7 @@ pub struct EpochDesk {
     pub desk: Desk,
 }
 
-/// The source of a client's desks of later epochs.
+/// The source of a client's desks of later epochs. It is told of each answer, so that a run can count them while it goes on.
 pub trait LaterDesks {
     // The sizes of the roster, which all epochs of a run have.
     ghost sizes: { Sizes };
@@ -22,4 +22,7 @@ pub trait LaterDesks {
     fn later(&self, epoch: u64) -> Option<EpochDesk>
         ensures later { IfSome result (λ next. epoch < next.epoch) }
         ensures sizes { IfSome result (λ next. next.desk.sizes ≡ sizes) };
+
+    /// An answer was written; `refused` if it is an `ERR` record.
+    fn note_answer(&self, refused: bool);
 }

@@ -53,6 +53,7 @@ pub fn answer_stream<R: Read + Drop, W: Write, L: LaterDesks>(
     ensures stopped { IfErr result (λ fault. fault ≢ AnswerFault.WriteFault → AnswersFirst setup.now (option_map whole_lines (R.remaining requests)) desk.old desk.new (W.contents answers.old) (W.contents answers.new)) }
     ensures cut { IfErr result (λ fault. fault ≡ AnswerFault.WriteFault → AnswersInPart setup.now (option_map whole_lines (R.remaining requests)) desk.old desk.new (W.contents answers.old) (W.contents answers.new)) }
     ensures knows { KeepsEpochs desk.old desk.new }
+    ensures sizes { desk.new.desk.sizes ≡ sizes_of setup.now.roster }
 {
     let mut reader = open_records(alloc, WholeLines::new(requests));
     answer_records(alloc, setup, desk, later, &mut reader, answers)
@@ -73,6 +74,7 @@ fn answer_records<R: Read, W: Write, L: LaterDesks>(
     ensures stopped { (bytes : Option (List ℕ)) → ReadsFrom R.remaining reader.old bytes [] → IfErr result (λ fault. fault ≢ AnswerFault.WriteFault → AnswersFirst setup.now bytes desk.old desk.new (W.contents answers.old) (W.contents answers.new)) }
     ensures cut { (bytes : Option (List ℕ)) → ReadsFrom R.remaining reader.old bytes [] → IfErr result (λ fault. fault ≡ AnswerFault.WriteFault → AnswersInPart setup.now bytes desk.old desk.new (W.contents answers.old) (W.contents answers.new)) }
     ensures knows { KeepsEpochs desk.old desk.new }
+    ensures sizes { desk.new.desk.sizes ≡ sizes_of setup.now.roster }
 {
     let mut row = open_row(alloc);
     let mut text = Vec::new(alloc);
@@ -129,7 +131,10 @@ fn advance<R: Read, W: Write, L: LaterDesks>(
         Err(fault) => return Err(fault),
     };
     match tell(answers, text) {
-        Ok(()) => Ok(Progress::Answered { refused }),
+        Ok(()) => {
+            later.note_answer(refused);
+            Ok(Progress::Answered { refused })
+        }
         Err(_) => Err(AnswerFault::WriteFault),
     }
 }

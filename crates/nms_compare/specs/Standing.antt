@@ -1,15 +1,12 @@
 -- The version at the time of a row of a vendor's file. This product's own rule.
-use Rattle.std.specs.Prelude.{ℕ, ◌≡◌, ◌+◌, ◌*◌, ◌≤◌, List, length, take, slice_index}
+use Rattle.std.specs.Prelude.{ℕ, ◌+◌, ◌*◌, List, length, take, slice_index}
 use Rattle.std.specs.Prelude.{Option, None, nat_lt, if◌then◌else◌, ◌==◌, ◌&&◌}
 use Rattle.std.specs.List.{position_or_len}
 use Rattle.nms_units.specs.Digits.{number_in}
-use Rattle.nms_quote.specs.Tape.{Tape, version}
-use Rattle.nms_board.specs.Cells.{Board, StandsFor}
 use Rattle.nms_quote.specs.declared.change.Change.{Change}
 use Rattle.nms_quote.specs.declared.change.Change.TheVariants as change
 use Rattle.nms_import.specs.declared.mapping.Order.{Order}
 use Rattle.nms_import.specs.declared.mapping.Order.TheVariants as order
-use Rattle.nms_compare.specs.declared.walk.Walk.{Walk}
 
 -- the place of something in the order of a file: its time of day, HHMMSSnnnnnnnnn; in a file by symbol, the place of the symbol
 -- and then the time
@@ -32,13 +29,3 @@ time_in text = if nat_lt 15 (length text) && slice_index text 15 == 10 then numb
 -- the version at a key: how many changes stand before the first that is later, which are all if none is
 abbrev pub version_by : (keys : List ℕ) → ℕ → ℕ
 version_by keys key = position_or_len (λ k. nat_lt key k) keys
-
--- a board of the first changes of a tape
-pub record IsAt (tape : Tape) (board : Board) : Type 0 where
-  pub within : board.applied ≤ length tape
-  pub stands : StandsFor board (version board.applied tape)
-
--- a board that has gone along a tape as far as a key
-pub record Walks (tape : Tape) (keys : List ℕ) (walk : Walk) : Type 0 where
-  pub at : walk.board.applied ≡ version_by keys walk.key
-  pub board : IsAt tape walk.board

@@ -1,24 +1,20 @@
 //! The rows of a vendor's file, compared one after another: `specs/Compared`.
-ghost use Rattle.std.specs.Prelude.{◌≡◌, ℕ, ◌++◌, ◌<◌, ◌≤◌, All, List, Option, length, true, IfOk, OnOk};
+ghost use Rattle.std.specs.Prelude.{◌≡◌, ℕ, ◌++◌, List, Option, length, IfOk, OnOk};
 ghost use Rattle.csv.specs.Records.{fields_of};
 ghost use Rattle.csv.specs.declared.parser.Config.{Config};
-ghost use Rattle.nms_quote.specs.Roster.{holds, sizes_of};
-ghost use Rattle.nms_quote.specs.declared.TheConstants.{MOST_CHANGES};
 ghost use Rattle.nms_lines.specs.Layout.{Record};
 ghost use Rattle.nms_import.specs.Rows.{AreAllRows, RowsFrom, unread};
 ghost use Rattle.nms_compare.specs.Compared.{counts_of, found_of, rows_in};
-ghost use Rattle.nms_compare.specs.Standing.{Walks};
 
 use crate::compare_fault::CompareFault;
 use crate::counts::Counts;
 use crate::finding::Finding;
-use crate::keys::{TIMES, key_of};
+use crate::keys::{Keyed, TIMES, key_of};
 use crate::national::read_national;
 use crate::showing::Shown;
 use crate::walk::{Walk, find_on, open_walk, walk_to};
 use csv::{ByteRecord, Reader};
 use nms_import::{Cause, Columns, Meanings, Order, RowSource, line_of, next_row};
-use nms_quote::{Change, Roster};
 use std::alloc::Global;
 use std::io::{Read, Write};
 
@@ -46,20 +42,15 @@ pub struct Vendor<'a> {
 pub fn compare_rows<R: Read, W: Write>(
     alloc: Global,
     vendor: &Vendor<'_>,
-    roster: &Roster,
-    changes: &[Change],
-    keys: &[u64],
+    keyed: &Keyed<'_>,
     reader: &mut Reader<RowSource<R>>,
     shown: &mut Shown<'_, W>,
 ) -> Result<Counts, CompareFault>
-    requires held { All (λ change. holds (sizes_of roster.now) change ≡ true) changes.now }
-    requires few { length changes.now ≤ MOST_CHANGES }
-    requires each { length keys.now ≡ length changes.now }
     ensures counted { (config : Config) (bytes : Option (List ℕ)) (seen : List Record) → RowsFrom config (unread R.remaining) reader.old bytes seen
         → IfOk result (λ counts. (rows : List Record) × AreAllRows config bytes (seen ++ rows)
-        × (counts ≡ counts_of vendor.now roster.now changes.now keys.now rows) × (rows_in counts ≡ length rows)) }
+        × (counts ≡ counts_of vendor.now keyed.now.tape.now.roster.now keyed.now.tape.now.changes.items keyed.now.keys.items rows) × (rows_in counts ≡ length rows)) }
 {
-    let mut walk = open_walk(alloc, roster, changes, keys)?;
+    let mut walk = open_walk(alloc, keyed)?;
     let mut row = ByteRecord::new(alloc);
     let mut scratch = Vec::new(alloc);
     let mut counts = Counts::none();
@@ -68,16 +59,7 @@ pub fn compare_rows<R: Read, W: Write>(
             return Ok(counts);
         }
         shown.at(line_of(reader, &row));
-        let found = find_row(
-            vendor,
-            roster,
-            changes,
-            keys,
-            &row,
-            &mut scratch,
-            &mut walk,
-            shown,
-        )?;
+        let found = find_row(vendor, &row, &mut scratch, &mut walk, shown)?;
         counts.count(found);
     }
     Err(CompareFault::TooLong)
@@ -86,23 +68,17 @@ pub fn compare_rows<R: Read, W: Write>(
 /// The finding on a row, on the version at its time.
 fn find_row<W: Write>(
     vendor: &Vendor<'_>,
-    roster: &Roster,
-    changes: &[Change],
-    keys: &[u64],
     row: &ByteRecord,
     scratch: &mut Vec<u8>,
-    walk: &mut Walk,
+    walk: &mut Walk<'_>,
     shown: &mut Shown<'_, W>,
 ) -> Result<Result<Finding, Cause>, CompareFault>
-    requires held { All (λ change. holds (sizes_of roster.now) change ≡ true) changes.now }
-    requires few { length changes.now ≤ MOST_CHANGES }
-    requires each { length keys.now ≡ length changes.now }
-    requires sizes { walk.old.board.sizes ≡ sizes_of roster.now }
-    requires walks { Walks changes.now keys.now walk.old }
-    ensures sizes { OnOk result (walk.new.board.sizes ≡ sizes_of roster.now) }
-    ensures walks { OnOk result (Walks changes.now keys.now walk.new) }
-    ensures found { IfOk result (λ found. found ≡ found_of vendor.now roster.now changes.now keys.now (fields_of row.now)) }
+    ensures tape { OnOk result (walk.new.replay.tape ≡ walk.old.replay.tape) }
+    ensures keys { OnOk result (walk.new.keys ≡ walk.old.keys) }
+    ensures found { IfOk result (λ found. found ≡ found_of vendor.now walk.old.replay.tape.now.roster.now
+        walk.old.replay.tape.now.changes.items walk.old.keys.now (fields_of row.now)) }
 {
+    let roster = walk.replay.tape.roster;
     let theirs = match read_national(
         &vendor.bids,
         &vendor.offers,
@@ -124,8 +100,8 @@ fn find_row<W: Write>(
     if key < walk.key {
         return Err(CompareFault::RowsFall);
     }
-    walk_to(walk, changes, keys, key);
+    walk_to(walk, key);
     let finding = find_on(walk, &theirs);
-    shown.show_finding(roster, &walk.board, &theirs, finding)?;
+    shown.show_finding(roster, &walk.replay.board, &theirs, finding)?;
     Ok(Ok(finding))
 }

@@ -6,28 +6,39 @@ ghost use Rattle.nms_compare.specs.Standing.{key_in, place_of, time_in};
 use crate::compare_fault::CompareFault;
 use nms_import::Order;
 use nms_quote::Change;
+use nms_stream::Tape;
 use nms_units::parse_digits;
 use std::alloc::Global;
 
 /// The greatest time and one more: a symbol's part of a key counts these.
 pub(crate) const TIMES: u64 = 1_000_000_000_000_000;
 
-/// The keys of the changes of a file, whose times are the lines of a text: 15 digits each, and a line feed.
+/// The changes of a tape, each with its place in the order of a vendor's file.
+#[derive(Drop)]
+pub struct Keyed<'a> {
+    /// The tape.
+    pub tape: &'a Tape<'a>,
+    /// The places.
+    pub keys: Vec<u64>,
+    pub ghost each: { length keys.items ≡ length tape.now.changes.items },
+}
+
+/// The places of the changes of a tape, whose times are the lines of a text: 15 digits each, and a line feed.
 ///
 /// `NotTheTimes` comes if the text does not have one such line for each change, `ChangesFall` if a change is before an earlier
 /// one.
-pub fn keys_of(
+pub fn keys_of<'a>(
     alloc: Global,
     order: Order,
-    changes: &[Change],
+    tape: &'a Tape<'a>,
     times: &[u8],
-) -> Result<Vec<u64>, CompareFault>
-    ensures each { IfOk result (λ keys. length keys.items ≡ length changes.now) }
+) -> Result<Keyed<'a>, CompareFault>
+    ensures { IfOk result (λ keyed. keyed.tape.now ≡ tape.now) }
 {
-    let mut keys = Vec::with_capacity(alloc, changes.len())?;
+    let mut keys = Vec::with_capacity(alloc, tape.changes.len())?;
     let mut rest = times;
     let mut last = 0;
-    for change in changes {
+    for change in &tape.changes {
         let Some(time) = time_in(rest) else {
             return Err(CompareFault::NotTheTimes);
         };
@@ -42,7 +53,7 @@ pub fn keys_of(
         rest = &rest[16..];
     }
     if rest.is_empty() {
-        Ok(keys)
+        Ok(Keyed { tape, keys })
     } else {
         Err(CompareFault::NotTheTimes)
     }

@@ -19,7 +19,7 @@ pub use compare_fault::CompareFault;
 pub use comparing::{Vendor, compare_rows};
 pub use counts::{Counts, write_counts};
 pub use finding::{Finding, find_between};
-pub use keys::{key_of, keys_of};
+pub use keys::{Keyed, key_of, keys_of};
 pub use national::{Best, National, read_national};
 pub use national_mapping::{NationalMapping, national_mapping_of};
 pub use showing::Shown;

@@ -1,79 +1,54 @@
 //! A board that goes along a tape, as far as the rows of a vendor's file have come: `specs/Standing`.
-ghost use Rattle.std.specs.Prelude.{◌≡◌, ℕ, ◌<◌, ◌≤◌, All, IfOk, IfSome, List, length, nat_lt, position, true};
-ghost use Rattle.nms_quote.specs.Roster.{holds, sizes_of};
-ghost use Rattle.nms_quote.specs.Tape.{Tape, version};
-ghost use Rattle.nms_quote.specs.declared.TheConstants.{MOST_CHANGES};
-ghost use Rattle.nms_compare.specs.Finding.{finding_of};
-ghost use Rattle.nms_compare.specs.Standing.{IsAt, Walks, version_by};
+ghost use Rattle.std.specs.Prelude.{◌≡◌, ◌<◌, ◌≤◌, IfOk, IfSome, length, nat_lt, position};
+ghost use Rattle.nms_quote.specs.Tape.{version};
 ghost use Rattle.nms_stream.specs.Quoted.{quoted_at};
+ghost use Rattle.nms_stream.specs.Tapes.{sizes_in};
+ghost use Rattle.nms_compare.specs.Finding.{finding_of};
+ghost use Rattle.nms_compare.specs.Standing.{version_by};
 
 use crate::finding::{Finding, find_between};
+use crate::keys::Keyed;
 use crate::national::National;
-use nms_board::{BoardFault, Boards};
-use nms_quote::{Change, Roster};
-use nms_stream::quoted_on;
+use nms_board::BoardFault;
+use nms_stream::{Replay, quoted_on};
 use std::alloc::Global;
 
-/// A board, and the key as far as which it has gone.
+/// A board, the places of the changes in the order of a file, and the place as far as which the board has gone.
 #[derive(Drop)]
-pub(crate) struct Walk {
-    pub(crate) board: Boards,
+pub(crate) struct Walk<'a> {
+    pub(crate) replay: Replay<'a>,
+    pub(crate) keys: &'a [u64],
     pub(crate) key: u64,
+    ghost each: { length keys.now ≡ length replay.tape.now.changes.items },
+    ghost at: { replay.board.applied ≡ version_by keys.now key },
 }
 
 /// Goes along the changes as far as a key, before any row was met.
-pub(crate) fn open_walk(
-    alloc: Global,
-    roster: &Roster,
-    changes: &[Change],
-    keys: &[u64],
-) -> Result<Walk, BoardFault>
-    requires held { All (λ change. holds (sizes_of roster.now) change ≡ true) changes.now }
-    requires few { length changes.now ≤ MOST_CHANGES }
-    requires each { length keys.now ≡ length changes.now }
-    ensures sizes { IfOk result (λ walk. walk.board.sizes ≡ sizes_of roster.now) }
-    ensures walks { IfOk result (Walks changes.now keys.now) }
+pub(crate) fn open_walk<'a>(alloc: Global, keyed: &'a Keyed<'a>) -> Result<Walk<'a>, BoardFault>
+    ensures tape { IfOk result (λ walk. walk.replay.tape.now ≡ keyed.now.tape.now) }
+    ensures keys { IfOk result (λ walk. walk.keys.now ≡ keyed.now.keys.items) }
 {
-    let mut board = Boards::new(alloc, roster)?;
-    move_to(&mut board, changes, count_not_later(keys, 0));
-    Ok(Walk { board, key: 0 })
+    let mut replay = Replay::open(alloc, keyed.tape)?;
+    replay.move_to(count_not_later(&keyed.keys, 0) as u64);
+    Ok(Walk {
+        replay,
+        keys: &keyed.keys,
+        key: 0,
+    })
 }
 
 /// Goes on as far as a later key.
-pub(crate) fn walk_to(walk: &mut Walk, changes: &[Change], keys: &[u64], key: u64)
-    requires held { All (λ change. holds walk.old.board.sizes change ≡ true) changes.now }
-    requires few { length changes.now ≤ MOST_CHANGES }
-    requires each { length keys.now ≡ length changes.now }
-    requires walks { Walks changes.now keys.now walk.old }
-    requires later { walk.old.key ≤ key }
-    ensures sizes { walk.new.board.sizes ≡ walk.old.board.sizes }
-    ensures walks { Walks changes.now keys.now walk.new }
+pub(crate) fn walk_to(walk: &mut Walk<'_>, key: u64)
+    requires { walk.old.key ≤ key }
+    ensures tape { walk.new.replay.tape ≡ walk.old.replay.tape }
+    ensures keys { walk.new.keys ≡ walk.old.keys }
     ensures key { walk.new.key ≡ key }
 {
-    let at = walk.board.applied() as usize;
-    let (_, keys_left) = keys.split_at(at);
-    move_to(
-        &mut walk.board,
-        changes,
-        at + count_not_later(keys_left, key),
-    );
+    let at = walk.replay.board.applied() as usize;
+    let (_, left) = walk.keys.split_at(at);
+    walk.replay
+        .move_to((at + count_not_later(left, key)) as u64);
     walk.key = key;
-}
-
-/// Moves a board on to a version of the changes.
-fn move_to(board: &mut Boards, changes: &[Change], version: usize)
-    requires held { All (λ change. holds board.old.sizes change ≡ true) changes.now }
-    requires few { length changes.now ≤ MOST_CHANGES }
-    requires within { version ≤ length changes.now }
-    requires behind { board.old.applied ≤ version }
-    requires at { IsAt changes.now board.old }
-    ensures at { IsAt changes.now board.new }
-    ensures moved { board.new.applied ≡ version }
-    ensures sizes { board.new.sizes ≡ board.old.sizes }
-{
-    let (version, _) = changes.split_at(version);
-    let (_, later) = version.split_at(board.applied() as usize);
-    board.apply_all(later);
 }
 
 /// How many of the first keys are no later than a key.
@@ -96,10 +71,10 @@ fn first_later(keys: &[u64], key: u64) -> Option<usize>
 }
 
 /// The finding on a national best on the version of the walk.
-pub(crate) fn find_on(walk: &Walk, theirs: &National) -> Finding
-    requires { theirs.now.sym < length walk.now.board.sizes.lots }
-    ensures { (tape : Tape) (keys : List ℕ) → Walks tape keys walk.now
-        → result ≡ finding_of (quoted_at walk.now.board.sizes (version (version_by keys walk.now.key) tape) theirs.now.sym) theirs.now }
+pub(crate) fn find_on(walk: &Walk<'_>, theirs: &National) -> Finding
+    requires { theirs.now.sym < length (sizes_in walk.now.replay.tape.now).lots }
+    ensures { result ≡ finding_of (quoted_at (sizes_in walk.now.replay.tape.now)
+        (version (version_by walk.now.keys.now walk.now.key) walk.now.replay.tape.now.changes.items) theirs.now.sym) theirs.now }
 {
-    find_between(&quoted_on(&walk.board, theirs.sym), theirs)
+    find_between(&quoted_on(&walk.replay.board, theirs.sym), theirs)
 }

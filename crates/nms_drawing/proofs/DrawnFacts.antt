@@ -49,9 +49,9 @@ day_page (Ok t) settings tape last frame sym plan given traded found old new sam
 }
 day_page (Err e) settings tape last frame sym plan given traded found old new same planned page = tt
 
-pub file_page : {T E : Type 0} (r : Result T E) (settings : Settings) (bytes : Option (List ℕ)) (frame : Frame) (sym : ℕ)
-    (plan old new : Option (List ℕ)) (tape read : Tape) → IsFileTape settings bytes tape → read ≡ tape
-    → OnOk r (IsDayPage settings read frame sym plan [] [] old new) → OnOk r (IsFilePage settings bytes frame sym plan old new)
-file_page (Ok t) settings bytes frame sym plan old new tape read file same page =
-    record { tape = tape; file = file; page = subst (λ (one : Tape). IsDayPage settings one frame sym plan [] [] old new) same page }
-file_page (Err e) settings bytes frame sym plan old new tape read file same page = tt
+pub file_page : {T E : Type 0} (r : Result T E) (settings own : Settings) (bytes : Option (List ℕ)) (frame : Frame) (sym : ℕ)
+    (plan old new : Option (List ℕ)) (tape : Tape) → own ≡ settings → IsFileTape settings bytes tape
+    → OnOk r (IsDayPage own tape frame sym plan [] [] old new) → OnOk r (IsFilePage settings bytes frame sym plan old new)
+file_page (Ok t) settings own bytes frame sym plan old new tape same file page =
+    record { tape = tape; file = file; page = subst (λ (one : Settings). IsDayPage one tape frame sym plan [] [] old new) same page }
+file_page (Err e) settings own bytes frame sym plan old new tape same file page = tt

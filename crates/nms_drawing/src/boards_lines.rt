@@ -1,11 +1,11 @@
 //! Each participant's quotations along the changes, as JSON objects: after each change, those that it may alter.
-ghost use Rattle.std.specs.Prelude.{◌≡◌, ◌+◌, ◌<◌, ◌≤◌, All, IfErr, false, length, true};
+ghost use Rattle.std.specs.Prelude.{◌≡◌, ◌<◌, ◌≤◌, IfErr, false, length, true};
 ghost use Rattle.std.specs.List.{list_all};
-ghost use Rattle.nms_quote.specs.Roster.{holds, sizes_of};
-ghost use Rattle.nms_quote.specs.declared.TheConstants.{MOST_CHANGES};
+ghost use Rattle.nms_quote.specs.Roster.{holds};
 ghost use Rattle.nms_show.specs.Plain.{is_own_plain, is_plain_member};
 ghost use Rattle.nms_show.specs.Safe.{IsSafe};
 ghost use Rattle.nms_show.specs.Written.{Writes};
+ghost use Rattle.nms_stream.specs.Tapes.{sizes_in};
 ghost use Rattle.nms_drawing.specs.Faults.{is_of_input};
 
 use crate::drawing_fault::DrawingFault;
@@ -13,6 +13,7 @@ use nms_board::{Boards, Row};
 use nms_lines::{name_of_part, name_of_sym};
 use nms_quote::{Change, Part, Roster, Side, Sym};
 use nms_show::{Item, ShowFault, write_object};
+use nms_stream::{Replay, Tape};
 use nms_times::{TimeOfDay, Times};
 use std::alloc::Global;
 use std::io::Write;
@@ -24,7 +25,7 @@ const MEMBERS: usize = 12;
 #[derive(Clone, Copy)]
 pub(crate) struct Wanted<'a> {
     pub(crate) alloc: Global,
-    pub(crate) roster: &'a Roster,
+    pub(crate) tape: &'a Tape<'a>,
     pub(crate) times: Option<&'a Times>,
     /// Without one all symbols are written.
     pub(crate) sym: Option<Sym>,
@@ -40,42 +41,20 @@ struct Quotation {
     offer: Option<Row>,
 }
 
-/// Writes the quotations of changes: after each change, those that it may alter.
+/// Writes the quotations of a tape: after each change, those that it may alter.
 pub(crate) fn write_boards<W: Write>(
     wanted: &Wanted<'_>,
-    changes: &[Change],
     answers: &mut W,
 ) -> Result<(), DrawingFault>
-    requires held { All (λ change. holds (sizes_of wanted.now.roster.now) change ≡ true) changes.now }
-    requires few { length changes.now ≤ MOST_CHANGES }
     ensures safe { Writes IsSafe (W.contents answers.old) (W.contents answers.new) result }
     ensures begun { IfErr result (λ fault. is_of_input fault ≡ false) }
 {
-    let mut board = match Boards::new(wanted.alloc, wanted.roster) {
-        Ok(board) => board,
+    let mut replay = match Replay::open(wanted.alloc, wanted.tape) {
+        Ok(replay) => replay,
         Err(fault) => return Err(DrawingFault::Board(fault)),
     };
-    match write_changes(wanted, &mut board, changes, answers) {
-        Ok(()) => Ok(()),
-        Err(fault) => Err(DrawingFault::from(fault)),
-    }
-}
-
-/// Applies changes to a board. After each one it writes the quotations that the change may alter.
-fn write_changes<W: Write>(
-    wanted: &Wanted<'_>,
-    board: &mut Boards,
-    changes: &[Change],
-    answers: &mut W,
-) -> Result<(), ShowFault>
-    requires sizes { board.old.sizes ≡ sizes_of wanted.now.roster.now }
-    requires held { All (λ change. holds board.old.sizes change ≡ true) changes.now }
-    requires room { board.old.applied + length changes.now ≤ MOST_CHANGES }
-    ensures { Writes IsSafe (W.contents answers.old) (W.contents answers.new) result }
-{
-    for change in changes {
-        board.apply(*change);
-        write_change(wanted, board, change, answers)?;
+    while let Some(change) = replay.step() {
+        write_change(wanted, &replay.board, &change, answers)?;
     }
     Ok(())
 }
@@ -87,7 +66,7 @@ fn write_change<W: Write>(
     change: &Change,
     answers: &mut W,
 ) -> Result<(), ShowFault>
-    requires sizes { board.now.sizes ≡ sizes_of wanted.now.roster.now }
+    requires sizes { board.now.sizes ≡ sizes_in wanted.now.tape.now }
     requires held { holds board.now.sizes change.now ≡ true }
     ensures { Writes IsSafe (W.contents answers.old) (W.contents answers.new) result }
 {
@@ -106,11 +85,11 @@ fn write_symbols<W: Write>(
     change: &Change,
     answers: &mut W,
 ) -> Result<(), ShowFault>
-    requires sizes { board.now.sizes ≡ sizes_of wanted.now.roster.now }
+    requires sizes { board.now.sizes ≡ sizes_in wanted.now.tape.now }
     requires held { holds board.now.sizes change.now ≡ true }
     ensures { Writes IsSafe (W.contents answers.old) (W.contents answers.new) result }
 {
-    for place in 0..wanted.roster.syms() as u16 {
+    for place in 0..wanted.tape.roster.syms() as u16 {
         write_symbol(wanted, board, change, Sym::new(place).unwrap(), answers)?;
     }
     Ok(())
@@ -204,7 +183,7 @@ fn write_quotation<W: Write>(
     requires { shown ≤ 12 }
     ensures { Writes IsSafe (W.contents answers.old) (W.contents answers.new) result }
 {
-    let members = members_of(wanted.roster, quotation, time);
+    let members = members_of(wanted.tape.roster, quotation, time);
     write_object(wanted.alloc, answers, &members[..shown])
 }
 

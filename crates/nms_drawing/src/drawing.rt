@@ -1,7 +1,6 @@
 //! A symbol's day as a page, with a plan and executions: `specs/Days`.
-ghost use Rattle.std.specs.Prelude.{◌≡◌, ◌≤◌, ◌∷◌, [], All, IfErr, IfOk, IfSome, List, ℕ, None, OnOk, Option, false, if◌then◌else◌, is_some, length, option_copied, option_map, true};
-ghost use Rattle.nms_quote.specs.Roster.{Listing, holds, sizes_of};
-ghost use Rattle.nms_quote.specs.declared.TheConstants.{MOST_CHANGES};
+ghost use Rattle.std.specs.Prelude.{◌≡◌, ◌≤◌, ◌∷◌, [], IfErr, IfOk, IfSome, List, ℕ, None, OnOk, Option, false, if◌then◌else◌, is_some, length, option_copied, option_map};
+ghost use Rattle.nms_quote.specs.Roster.{Listing};
 ghost use Rattle.nms_drawing.specs.Days.{Fits, FitsFile, IsDayFault, IsFileDayFault, IsPlanText, last_drawn};
 ghost use Rattle.nms_drawing.specs.Drawn.{IsDayPage, IsFilePage, IsFramedPage, found_of, is_shown_state, shown_plan, since_of, traded_of, until_of};
 ghost use Rattle.nms_drawing.specs.Faults.{is_begun, is_of_input};
@@ -13,10 +12,10 @@ use crate::executions::Judged;
 use crate::page::{Content, write_content};
 use crate::rows::Window;
 use nms_fees::Setup;
-use nms_files::read_changes;
 use nms_lines::read_plan;
-use nms_quote::{Change, Plan, Sym};
+use nms_quote::{Plan, Sym};
 use nms_show::Ending;
+use nms_stream::Tape;
 use nms_times::{TimeOfDay, Times};
 use nms_verdicts::{Said, report_plan};
 use std::alloc::{AllocError, Global};
@@ -76,10 +75,8 @@ pub fn draw_changes<R: Read + Drop, W: Write>(
         (option_copied frame.now.times) (option_copied plan.entry)) }
     ensures unwritten { IfErr result (λ fault. is_begun fault ≡ false → W.contents answers.new ≡ W.contents answers.old) }
 {
-    match read_changes(alloc, setup, source) {
-        Ok(changes) => draw_day(
-            alloc, setup, &changes, frame, sym, plan, None, about, answers,
-        ),
+    match Tape::read(alloc, setup, source) {
+        Ok(tape) => draw_day(alloc, &tape, frame, sym, plan, None, about, answers),
         Err(fault) => Err(DrawingFault::Changes(fault)),
     }
 }
@@ -87,8 +84,7 @@ pub fn draw_changes<R: Read + Drop, W: Write>(
 /// Writes the page of a symbol's day as `draw_changes` does, with executions of that symbol if there are any.
 pub(crate) fn draw_day<W: Write>(
     alloc: Global,
-    setup: &Setup,
-    changes: &[Change],
+    tape: &Tape<'_>,
     frame: &Frame<'_>,
     sym: Sym,
     plan: Option<&[u8]>,
@@ -96,46 +92,33 @@ pub(crate) fn draw_day<W: Write>(
     about: &About<'_>,
     answers: &mut W,
 ) -> Result<Ending, DrawingFault>
-    requires held { All (λ change. holds (sizes_of setup.now.roster) change ≡ true) changes.now }
-    requires few { length changes.now ≤ MOST_CHANGES }
     requires places { IfSome (option_copied judged) (λ judged. length judged.findings.items ≡ length judged.records.executions.items) }
-    ensures page { OnOk result (IsDayPage setup.now changes.now frame.now sym (option_copied plan.entry)
+    ensures page { OnOk result (IsDayPage tape.now.setup.now tape.now.changes.items frame.now sym (option_copied plan.entry)
         (traded_of (option_copied judged.entry)) (found_of (option_copied judged.entry)) (W.contents answers.old) (W.contents answers.new)) }
-    ensures drawn { OnOk result (Fits frame.now.from frame.now.to frame.now.own (option_copied frame.now.times) changes.now) }
-    ensures plan { OnOk result (IfSome (option_copied plan.entry) (IsPlanText setup.now.roster)) }
-    ensures refused { IfErr result (IsDayFault setup.now.roster changes.now frame.now.from frame.now.to frame.now.own
+    ensures drawn { OnOk result (Fits frame.now.from frame.now.to frame.now.own (option_copied frame.now.times) tape.now.changes.items) }
+    ensures plan { OnOk result (IfSome (option_copied plan.entry) (IsPlanText tape.now.roster.now)) }
+    ensures refused { IfErr result (IsDayFault tape.now.roster.now tape.now.changes.items frame.now.from frame.now.to frame.now.own
         (option_copied frame.now.times) (option_copied plan.entry)) }
     ensures unwritten { IfErr result (λ fault. is_begun fault ≡ false → W.contents answers.new ≡ W.contents answers.old) }
 {
-    let to = match last_of(changes, frame) {
+    let to = match last_of(tape, frame) {
         Ok(to) => to,
         Err(fault) => return Err(fault),
     };
     let Some(text) = plan else {
-        return draw_on(
-            alloc, setup, changes, frame, to, sym, None, judged, about, answers,
-        );
+        return draw_on(alloc, tape, frame, to, sym, None, judged, about, answers);
     };
-    let (plan, certificate) = match read_plan(alloc, text, setup.roster()) {
+    let (plan, certificate) = match read_plan(alloc, text, tape.roster) {
         Ok(read) => read,
         Err(fault) => return Err(DrawingFault::Plan(fault)),
     };
-    let said = match report_plan(
-        alloc,
-        setup,
-        changes,
-        frame.times,
-        about.plan,
-        &plan,
-        &certificate,
-    ) {
+    let said = match report_plan(alloc, tape, frame.times, about.plan, &plan, &certificate) {
         Ok(said) => said,
         Err(fault) => return Err(DrawingFault::Board(fault)),
     };
     draw_on(
         alloc,
-        setup,
-        changes,
+        tape,
         frame,
         to,
         sym,
@@ -147,13 +130,13 @@ pub(crate) fn draw_day<W: Write>(
 }
 
 /// The last version that a frame shows.
-fn last_of(changes: &[Change], frame: &Frame<'_>) -> Result<u64, DrawingFault>
-    ensures fits { IfOk result (λ to. Fits frame.now.from frame.now.to frame.now.own (option_copied frame.now.times) changes.now) }
-    ensures last { IfOk result (λ to. to ≡ last_drawn frame.now.to changes.now) }
-    ensures refused { (roster : Listing) (plan : Option (List ℕ)) → IfErr result (IsDayFault roster changes.now frame.now.from frame.now.to
+fn last_of(tape: &Tape<'_>, frame: &Frame<'_>) -> Result<u64, DrawingFault>
+    ensures fits { IfOk result (λ to. Fits frame.now.from frame.now.to frame.now.own (option_copied frame.now.times) tape.now.changes.items) }
+    ensures last { IfOk result (λ to. to ≡ last_drawn frame.now.to tape.now.changes.items) }
+    ensures refused { (roster : Listing) (plan : Option (List ℕ)) → IfErr result (IsDayFault roster tape.now.changes.items frame.now.from frame.now.to
         frame.now.own (option_copied frame.now.times) plan) }
 {
-    let all = changes.len() as u64;
+    let all = tape.changes.len() as u64;
     let to = match frame.to {
         Some(to) => to,
         None => all,
@@ -163,7 +146,7 @@ fn last_of(changes: &[Change], frame: &Frame<'_>) -> Result<u64, DrawingFault>
     }
     if !frame.own {
         if let Some(times) = frame.times {
-            times.check_len(changes.len())?;
+            times.check_len(tape.changes.len())?;
             times.rising_between(frame.from as usize, to as usize)?;
         }
     }
@@ -173,8 +156,7 @@ fn last_of(changes: &[Change], frame: &Frame<'_>) -> Result<u64, DrawingFault>
 /// Writes the page of a day, with a plan and what is said of it.
 fn draw_on<W: Write>(
     alloc: Global,
-    setup: &Setup,
-    changes: &[Change],
+    tape: &Tape<'_>,
     frame: &Frame<'_>,
     to: u64,
     sym: Sym,
@@ -183,18 +165,16 @@ fn draw_on<W: Write>(
     about: &About<'_>,
     answers: &mut W,
 ) -> Result<Ending, DrawingFault>
-    requires held { All (λ change. holds (sizes_of setup.now.roster) change ≡ true) changes.now }
-    requires few { length changes.now ≤ MOST_CHANGES }
     requires order { frame.now.from ≤ to }
-    requires within { to ≤ length changes.now }
+    requires within { to ≤ length tape.now.changes.items }
     requires places { IfSome (option_copied judged) (λ judged. length judged.findings.items ≡ length judged.records.executions.items) }
-    ensures page { OnOk result (IsFramedPage setup.now.roster changes.now to frame.now sym
+    ensures page { OnOk result (IsFramedPage tape.now.roster.now tape.now.changes.items to frame.now sym
         (option_map (λ given. (given.0.now, given.1.now)) plan.entry) (traded_of (option_copied judged.entry))
         (found_of (option_copied judged.entry)) (W.contents answers.old) (W.contents answers.new)) }
     ensures own { IfErr result (λ fault. is_of_input fault ≡ false) }
     ensures unwritten { IfErr result (λ fault. is_begun fault ≡ false → W.contents answers.new ≡ W.contents answers.old) }
 {
-    let Ok(days) = days_of_symbol(alloc, setup.roster(), sym) else {
+    let Ok(days) = days_of_symbol(alloc, tape.roster, sym) else {
         return Err(DrawingFault::NoMemory);
     };
     let window = Window {
@@ -208,9 +188,7 @@ fn draw_on<W: Write>(
         timed: frame.times.is_some() && !frame.own,
         bests: frame.bests,
     };
-    draw_window(
-        alloc, setup, changes, &window, sym, plan, judged, about, answers,
-    )
+    draw_window(alloc, tape, &window, sym, plan, judged, about, answers)
 }
 
 /// The time from which executions are shown, in nanoseconds since midnight.
@@ -236,8 +214,7 @@ fn until_of(frame: &Frame<'_>) -> u64
 /// Writes the page of what a window shows.
 fn draw_window<W: Write>(
     alloc: Global,
-    setup: &Setup,
-    changes: &[Change],
+    tape: &Tape<'_>,
     window: &Window<'_>,
     sym: Sym,
     plan: Option<(&Plan, &Said)>,
@@ -245,13 +222,11 @@ fn draw_window<W: Write>(
     about: &About<'_>,
     answers: &mut W,
 ) -> Result<Ending, DrawingFault>
-    requires held { All (λ change. holds (sizes_of setup.now.roster) change ≡ true) changes.now }
-    requires few { length changes.now ≤ MOST_CHANGES }
-    requires days { length window.now.days.now ≡ length setup.now.roster.syms }
+    requires days { length window.now.days.now ≡ length tape.now.roster.now.syms }
     requires order { window.now.from ≤ window.now.to }
-    requires within { window.now.to ≤ length changes.now }
+    requires within { window.now.to ≤ length tape.now.changes.items }
     requires places { IfSome (option_copied judged) (λ judged. length judged.findings.items ≡ length judged.records.executions.items) }
-    ensures page { OnOk result (WritesPage setup.now.roster changes.now window.now (sym ∷ []) (traded_of (option_copied judged.entry))
+    ensures page { OnOk result (WritesPage tape.now.roster.now tape.now.changes.items window.now (sym ∷ []) (traded_of (option_copied judged.entry))
         (found_of (option_copied judged.entry)) (shown_plan window.now sym (option_map (λ given. (given.0.now, given.1.now)) plan.entry))
         (W.contents answers.old) (W.contents answers.new)) }
     ensures own { IfErr result (λ fault. is_of_input fault ≡ false) }
@@ -264,8 +239,7 @@ fn draw_window<W: Write>(
     let symbols = [sym];
     let aside = [asides_of(judged)];
     let content = Content {
-        roster: setup.roster(),
-        changes,
+        tape,
         window,
         symbols: &symbols,
         executions: executions_of(judged),

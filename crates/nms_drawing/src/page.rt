@@ -1,8 +1,8 @@
 //! A page of a day: its own text, a plain report, and the data (`specs/Page`).
-ghost use Rattle.std.specs.Prelude.{◌≡◌, ◌≤◌, ◌++◌, ◌∷◌, [], All, IfErr, IfOk, OnOk, false, if◌then◌else◌, length, map, option_map, replicate, true};
+ghost use Rattle.std.specs.Prelude.{◌≡◌, ◌≤◌, ◌++◌, ◌∷◌, [], IfErr, IfOk, OnOk, false, if◌then◌else◌, length, map, option_map, replicate};
 ghost use Rattle.std.specs.List.{range_with_len};
-ghost use Rattle.nms_quote.specs.Roster.{holds, part_text, sizes_of, symbol_text};
-ghost use Rattle.nms_quote.specs.declared.TheConstants.{MOST_CHANGES};
+ghost use Rattle.nms_quote.specs.Roster.{part_text, symbol_text};
+ghost use Rattle.nms_stream.specs.Tapes.{sizes_in};
 ghost use Rattle.nms_drawing.specs.Faults.{is_begun, is_of_input};
 ghost use Rattle.nms_drawing.specs.Data.{json_text};
 ghost use Rattle.nms_drawing.specs.Page.{HasReport, IsPage, WritesPage, by_day, day_row, page_text, part_names};
@@ -22,8 +22,9 @@ use crate::texts::append_data;
 use crate::trades::{TradeRows, trade_rows};
 use nms_board::BoardFault;
 use nms_lines::{name_of_part, name_of_sym, write_text};
-use nms_quote::{Change, Part, Plan, Roster, Sym};
+use nms_quote::{Part, Plan, Roster, Sym};
 use nms_show::Ending;
+use nms_stream::Tape;
 use nms_trades::{Cause, Execution, Finding};
 use nms_verdicts::Said;
 use std::alloc::{AllocError, Global};
@@ -32,8 +33,7 @@ use std::io::Write;
 /// What a page is made of.
 #[derive(Clone, Copy)]
 pub(crate) struct Content<'a> {
-    pub(crate) roster: &'a Roster,
-    pub(crate) changes: &'a [Change],
+    pub(crate) tape: &'a Tape<'a>,
     pub(crate) window: &'a Window<'a>,
     /// The symbols that have a day, in the order of the days.
     pub(crate) symbols: &'a [Sym],
@@ -52,16 +52,14 @@ pub(crate) struct Content<'a> {
 
 /// The text of a page. Its only fault is that no board was made, or out of memory.
 pub(crate) fn page_of(alloc: Global, content: &Content<'_>) -> Result<Vec<u8>, BoardFault>
-    requires held { All (λ change. holds (sizes_of content.now.roster.now) change ≡ true) content.now.changes.now }
-    requires few { length content.now.changes.now ≤ MOST_CHANGES }
-    requires days { length content.now.window.now.days.now ≡ length content.now.roster.now.syms }
+    requires days { length content.now.window.now.days.now ≡ length content.now.tape.now.roster.now.syms }
     requires order { content.now.window.now.from ≤ content.now.window.now.to }
-    requires within { content.now.window.now.to ≤ length content.now.changes.now }
+    requires within { content.now.window.now.to ≤ length content.now.tape.now.changes.items }
     requires found { length content.now.findings.now ≡ length content.now.executions.now }
-    ensures { IfOk result (λ text. IsPage content.now.roster.now content.now.changes.now content.now.window.now content.now.symbols.now
+    ensures { IfOk result (λ text. IsPage content.now.tape.now.roster.now content.now.tape.now.changes.items content.now.window.now content.now.symbols.now
         content.now.executions.now content.now.findings.now (option_map (λ given. (given.0.now, given.1.now)) content.now.plan) text.items) }
 {
-    let rows = match rows_of(alloc, content.roster, content.changes, content.window) {
+    let rows = match rows_of(alloc, content.tape, content.window) {
         Ok(rows) => rows,
         Err(fault) => return Err(fault),
     };
@@ -74,9 +72,9 @@ pub(crate) fn page_of(alloc: Global, content: &Content<'_>) -> Result<Vec<u8>, B
 /// The text of a page with these rows.
 fn text_of(alloc: Global, content: &Content<'_>, rows: &Rows) -> Result<Vec<u8>, AllocError>
     requires found { length content.now.findings.now ≡ length content.now.executions.now }
-    requires rows { AreRows content.now.window.now (sizes_of content.now.roster.now) content.now.changes.now content.now.window.now.from
+    requires rows { AreRows content.now.window.now (sizes_in content.now.tape.now) content.now.tape.now.changes.items content.now.window.now.from
         content.now.window.now.to rows.now }
-    ensures { IfOk result (λ text. IsPage content.now.roster.now content.now.changes.now content.now.window.now content.now.symbols.now
+    ensures { IfOk result (λ text. IsPage content.now.tape.now.roster.now content.now.tape.now.changes.items content.now.window.now content.now.symbols.now
         content.now.executions.now content.now.findings.now (option_map (λ given. (given.0.now, given.1.now)) content.now.plan) text.items) }
 {
     let trades = trade_rows(
@@ -122,15 +120,15 @@ struct Names<'a> {
 /// The names of symbols, participants and causes.
 fn names_of<'a>(alloc: Global, content: &Content<'a>) -> Result<Names<'a>, AllocError>
     ensures symbols { IfOk result (λ names. map (λ name. name.now) names.symbols.items
-        ≡ map (symbol_text content.now.roster.now) content.now.symbols.now) }
-    ensures parts { IfOk result (λ names. map (λ name. name.now) names.parts.items ≡ part_names content.now.roster.now) }
+        ≡ map (symbol_text content.now.tape.now.roster.now) content.now.symbols.now) }
+    ensures parts { IfOk result (λ names. map (λ name. name.now) names.parts.items ≡ part_names content.now.tape.now.roster.now) }
 {
     let mut names = Names {
         symbols: Vec::new(alloc),
         parts: Vec::new(alloc),
         causes: Vec::new(alloc),
     };
-    match add_names(&mut names, content.roster, content.symbols) {
+    match add_names(&mut names, content.tape.roster, content.symbols) {
         Ok(()) => Ok(names),
         Err(fault) => Err(fault),
     }
@@ -196,7 +194,7 @@ fn page_with<'l, 't>(
     plan: &'l PlanRows<'t>,
     names: &'l Names<'t>,
 ) -> Result<Vec<u8>, AllocError>
-    requires rows { AreRows content.now.window.now (sizes_of content.now.roster.now) content.now.changes.now content.now.window.now.from
+    requires rows { AreRows content.now.window.now (sizes_in content.now.tape.now) content.now.tape.now.changes.items content.now.window.now.from
         content.now.window.now.to rows.now }
     requires executions { trades.now.executions.items ≡ execution_rows content.now.window.now
         (shown_of content.now.window.now content.now.executions.now content.now.findings.now) }
@@ -208,9 +206,9 @@ fn page_with<'l, 't>(
         ≡ plans_of content.now.window.now (option_map (λ given. (given.0.now, given.1.now)) content.now.plan) }
     requires legs { plan.now.legs.items ≡ legs_of (option_map (λ given. (given.0.now, given.1.now)) content.now.plan) }
     requires quotations { plan.now.quotations.items ≡ quotations_of (option_map (λ given. (given.0.now, given.1.now)) content.now.plan) }
-    requires symbols { map (λ name. name.now) names.now.symbols.items ≡ map (symbol_text content.now.roster.now) content.now.symbols.now }
-    requires parts { map (λ name. name.now) names.now.parts.items ≡ part_names content.now.roster.now }
-    ensures { IfOk result (λ text. IsPage content.now.roster.now content.now.changes.now content.now.window.now content.now.symbols.now
+    requires symbols { map (λ name. name.now) names.now.symbols.items ≡ map (symbol_text content.now.tape.now.roster.now) content.now.symbols.now }
+    requires parts { map (λ name. name.now) names.now.parts.items ≡ part_names content.now.tape.now.roster.now }
+    ensures { IfOk result (λ text. IsPage content.now.tape.now.roster.now content.now.tape.now.changes.items content.now.window.now content.now.symbols.now
         content.now.executions.now content.now.findings.now (option_map (λ given. (given.0.now, given.1.now)) content.now.plan) text.items) }
 {
     let days = days_of(alloc, content)?;
@@ -341,13 +339,11 @@ pub(crate) fn write_content<W: Write>(
     content: &Content<'_>,
     answers: &mut W,
 ) -> Result<Ending, DrawingFault>
-    requires held { All (λ change. holds (sizes_of content.now.roster.now) change ≡ true) content.now.changes.now }
-    requires few { length content.now.changes.now ≤ MOST_CHANGES }
-    requires days { length content.now.window.now.days.now ≡ length content.now.roster.now.syms }
+    requires days { length content.now.window.now.days.now ≡ length content.now.tape.now.roster.now.syms }
     requires order { content.now.window.now.from ≤ content.now.window.now.to }
-    requires within { content.now.window.now.to ≤ length content.now.changes.now }
+    requires within { content.now.window.now.to ≤ length content.now.tape.now.changes.items }
     requires found { length content.now.findings.now ≡ length content.now.executions.now }
-    ensures page { OnOk result (WritesPage content.now.roster.now content.now.changes.now content.now.window.now content.now.symbols.now
+    ensures page { OnOk result (WritesPage content.now.tape.now.roster.now content.now.tape.now.changes.items content.now.window.now content.now.symbols.now
         content.now.executions.now content.now.findings.now (option_map (λ given. (given.0.now, given.1.now)) content.now.plan)
         (W.contents answers.old) (W.contents answers.new)) }
     ensures own { IfErr result (λ fault. is_of_input fault ≡ false) }

@@ -1,13 +1,14 @@
 //! The rows of a page that come of the changes (`specs/Rows`).
 ghost use Rattle.std.specs.Prelude.{◌≡◌, ◌+◌, ◌<◌, ◌≤◌, ◌++◌, ◌∷◌, [], All, length, true, IfOk, OnOk};
 ghost use Rattle.std.specs.List.{flat_map, range_with_len};
-ghost use Rattle.nms_quote.specs.Roster.{holds, sizes_of};
+ghost use Rattle.nms_quote.specs.Roster.{holds};
 ghost use Rattle.nms_quote.specs.declared.TheConstants.{MOST_CHANGES};
+ghost use Rattle.nms_stream.specs.Tapes.{sizes_in};
 ghost use Rattle.nms_drawing.specs.Rows.{AreRows, along, best_between, best_cells, best_row, best_rows, board_rows, day_of, is_manual, lot_row, lot_rows, lots_after, nanoseconds_in, of_symbols, on_day, opened_best, opened_board, opened_lots, part_if_shown, part_row, parts_after, side_cells, time_in};
 
 use nms_board::{BoardFault, Boards, Row};
-use nms_quote::{Change, Part, Roster, Side, Sym};
-use nms_stream::{Quoted, quoted_on};
+use nms_quote::{Change, Part, Side, Sym};
+use nms_stream::{Quoted, Tape, quoted_on};
 use nms_times::{TimeOfDay, Times};
 use std::alloc::{AllocError, Global};
 
@@ -86,21 +87,18 @@ pub(crate) struct Rows {
 /// The rows of changes, from one version to another.
 pub(crate) fn rows_of(
     alloc: Global,
-    roster: &Roster,
-    changes: &[Change],
+    tape: &Tape<'_>,
     window: &Window<'_>,
 ) -> Result<Rows, BoardFault>
-    requires held { All (λ change. holds (sizes_of roster.now) change ≡ true) changes.now }
-    requires few { length changes.now ≤ MOST_CHANGES }
-    requires days { length window.now.days.now ≡ length roster.now.syms }
+    requires days { length window.now.days.now ≡ length tape.now.roster.now.syms }
     requires order { window.now.from ≤ window.now.to }
-    requires within { window.now.to ≤ length changes.now }
-    ensures { IfOk result (AreRows window.now (sizes_of roster.now) changes.now window.now.from window.now.to) }
+    requires within { window.now.to ≤ length tape.now.changes.items }
+    ensures { IfOk result (AreRows window.now (sizes_in tape.now) tape.now.changes.items window.now.from window.now.to) }
 {
-    let opening = Boards::new(alloc, roster)?;
-    let mut was = Boards::new(alloc, roster)?;
-    let mut board = Boards::new(alloc, roster)?;
-    let (before, rest) = changes.split_at(window.from as usize);
+    let opening = Boards::new(alloc, tape.roster)?;
+    let mut was = Boards::new(alloc, tape.roster)?;
+    let mut board = Boards::new(alloc, tape.roster)?;
+    let (before, rest) = tape.changes.split_at(window.from as usize);
     let (shown, _) = rest.split_at((window.to - window.from) as usize);
     was.apply_all(before);
     board.apply_all(before);

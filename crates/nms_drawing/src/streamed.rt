@@ -11,10 +11,9 @@ use crate::boards_lines::{Wanted, write_boards};
 use crate::drawing_fault::DrawingFault;
 use crate::passed_lines::PassedLines;
 use nms_fees::Setup;
-use nms_files::read_changes;
 use nms_quote::Sym;
 use nms_show::{Ending, Form};
-use nms_stream::{StreamFault, stream, stream_file};
+use nms_stream::{StreamFault, Tape, stream, stream_file};
 use nms_times::Times;
 use std::alloc::Global;
 use std::io::{Read, Write};
@@ -87,15 +86,15 @@ fn stream_lines<R: Read + Drop, W: Write>(
     ensures refused { IfErr result (IsStreamedFault setup.now (R.remaining source) (option_copied times.entry)) }
     ensures unwritten { IfErr result (λ fault. is_of_input fault ≡ true → W.contents answers.new ≡ W.contents answers.old) }
 {
-    let changes = match read_changes(alloc, setup, source) {
-        Ok(changes) => changes,
+    let tape = match Tape::read(alloc, setup, source) {
+        Ok(tape) => tape,
         Err(fault) => return Err(DrawingFault::Changes(fault)),
     };
     if let Some(times) = times {
-        times.check_len(changes.len())?;
+        times.check_len(tape.changes.len())?;
     }
     let mut lines = PassedLines::new(alloc, times, form, answers);
-    match stream(alloc, setup.roster(), &changes, sym, &mut lines) {
+    match stream(alloc, &tape, sym, &mut lines) {
         Ok(()) => Ok(Ending::Done),
         Err(fault) => Err(passed_on(fault, lines.wants_memory())),
     }
@@ -117,20 +116,20 @@ pub fn stream_boards<R: Read + Drop, W: Write>(
     ensures refused { IfErr result (IsStreamedFault setup.now (R.remaining source) (option_copied times.entry)) }
     ensures unwritten { IfErr result (λ fault. is_of_input fault ≡ true → W.contents answers.new ≡ W.contents answers.old) }
 {
-    let changes = match read_changes(alloc, setup, source) {
-        Ok(changes) => changes,
+    let tape = match Tape::read(alloc, setup, source) {
+        Ok(tape) => tape,
         Err(fault) => return Err(DrawingFault::Changes(fault)),
     };
     if let Some(times) = times {
-        times.check_len(changes.len())?;
+        times.check_len(tape.changes.len())?;
     }
     let wanted = Wanted {
         alloc,
-        roster: setup.roster(),
+        tape: &tape,
         times,
         sym,
     };
-    match write_boards(&wanted, &changes, answers) {
+    match write_boards(&wanted, answers) {
         Ok(()) => Ok(Ending::Done),
         Err(fault) => Err(fault),
     }

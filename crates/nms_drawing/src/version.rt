@@ -1,23 +1,22 @@
 //! The state at any version: the report of one symbol, or a table of all.
-ghost use Rattle.std.specs.Prelude.{◌≡◌, ◌<◌, ◌≤◌, All, IfErr, IfOk, IfSome, OnOk, Option, length, option_copied, true, false};
-ghost use Rattle.nms_quote.specs.Roster.{holds, sizes_of};
-ghost use Rattle.nms_quote.specs.Tape.{Tape};
-ghost use Rattle.nms_quote.specs.declared.TheConstants.{MOST_CHANGES};
+ghost use Rattle.std.specs.Prelude.{◌≡◌, ◌<◌, ◌≤◌, All, IfErr, IfOk, IfSome, List, OnOk, Option, length, option_copied, take, true, false};
+ghost use Rattle.nms_quote.specs.Roster.{sizes_of};
+ghost use Rattle.nms_quote.specs.declared.change.Change.{Change};
 ghost use Rattle.nms_board.specs.Cells.{StandsFor};
 ghost use Rattle.nms_quote.specs.declared.side_quote.Side.{Side};
 ghost use Rattle.nms_board.specs.View.{rows_on, view_of};
+ghost use Rattle.nms_stream.specs.Tapes.{sizes_in};
 ghost use Rattle.nms_drawing.specs.Faults.{is_begun};
 ghost use Rattle.nms_drawing.specs.Versions.{HasVersion, IsBoardOf, IsVersionBoard, IsVersionFault, Reports, ShowsVersion, is_text};
 
 use crate::drawing_fault::DrawingFault;
 use nms_board::{BoardFault, Boards, Row, View};
 use nms_fees::Setup;
-use nms_files::read_changes;
 use nms_lines::{name_of_part, name_of_sym, word_of_side, write_text};
 use nms_nbbo::{Pair, PairPlace, best, market, market_between, next_pair};
-use nms_quote::{Change, Roster, Side, Sym};
+use nms_quote::{Roster, Side, Sym};
 use nms_show::{Column, Ending, Form, Item, ShowFault, write_object, write_row};
-use nms_stream::{Quoted, quoted_on};
+use nms_stream::{Quoted, Tape, quoted_on};
 use nms_text::{report, word_of_clause, word_of_market, word_of_pair};
 use nms_times::Times;
 use std::alloc::Global;
@@ -41,7 +40,7 @@ pub fn show_version<R: Read + Drop, W: Write>(
     requires { IfSome sym (λ sym. sym < length setup.now.roster.syms) }
     ensures shown { is_text form ≡ true → IfSome sym (λ sym. OnOk result
         (ShowsVersion setup.now (R.remaining source) (option_copied times.entry) version sym (W.contents answers.old) (W.contents answers.new))) }
-    ensures of { OnOk result ((tape : Tape) × HasVersion setup.now (R.remaining source) (option_copied times.entry) version tape) }
+    ensures of { OnOk result ((tape : List Change) × HasVersion setup.now (R.remaining source) (option_copied times.entry) version tape) }
     ensures refused { IfErr result (IsVersionFault setup.now (R.remaining source) (option_copied times.entry) version) }
     ensures unwritten { IfErr result (λ fault. is_begun fault ≡ false → W.contents answers.new ≡ W.contents answers.old) }
 {
@@ -63,7 +62,7 @@ fn show_board<W: Write>(
 ) -> Result<(), DrawingFault>
     requires sizes { board.now.sizes ≡ sizes_of roster.now }
     requires sym { IfSome sym (λ sym. sym < length roster.now.syms) }
-    ensures shown { is_text form ≡ true → IfSome sym (λ sym. (tape : Tape) → StandsFor board.now tape → OnOk result
+    ensures shown { is_text form ≡ true → IfSome sym (λ sym. (tape : List Change) → StandsFor board.now tape → OnOk result
         (Reports roster.now (view_of (sizes_of roster.now) tape sym) (W.contents answers.old) (W.contents answers.new))) }
     ensures begun { IfErr result (λ fault. is_begun fault ≡ true) }
 {
@@ -89,34 +88,30 @@ pub(crate) fn board_at<R: Read + Drop>(
     ensures board { IfOk result (IsVersionBoard setup.now (R.remaining source) (option_copied times.entry) version) }
     ensures refused { IfErr result (λ fault. (is_begun fault ≡ false) × IsVersionFault setup.now (R.remaining source) (option_copied times.entry) version fault) }
 {
-    let changes = match read_changes(alloc, setup, source) {
-        Ok(changes) => changes,
+    let tape = match Tape::read(alloc, setup, source) {
+        Ok(tape) => tape,
         Err(fault) => return Err(DrawingFault::Changes(fault)),
     };
     if let Some(times) = times {
-        times.check_len(changes.len())?;
+        times.check_len(tape.changes.len())?;
     }
-    if version > changes.len() as u64 {
+    if version > tape.changes.len() as u64 {
         return Err(DrawingFault::VersionBeyondTape);
     }
-    match board_after(alloc, setup.roster(), &changes[..version as usize]) {
+    match board_after(alloc, &tape, version as usize) {
         Ok(board) => Ok(board),
         Err(fault) => Err(DrawingFault::Board(fault)),
     }
 }
 
-/// The board after these changes.
-pub(crate) fn board_after(
-    alloc: Global,
-    roster: &Roster,
-    changes: &[Change],
-) -> Result<Boards, BoardFault>
-    requires held { All (λ change. holds (sizes_of roster.now) change ≡ true) changes.now }
-    requires few { length changes.now ≤ MOST_CHANGES }
-    ensures { IfOk result (IsBoardOf (sizes_of roster.now) changes.now) }
+/// The board of a version of a tape.
+fn board_after(alloc: Global, tape: &Tape<'_>, version: usize) -> Result<Boards, BoardFault>
+    requires { version ≤ length tape.now.changes.items }
+    ensures { IfOk result (IsBoardOf (sizes_in tape.now) (take version tape.now.changes.items)) }
 {
-    let mut board = Boards::new(alloc, roster)?;
-    board.apply_all(changes);
+    let mut board = Boards::new(alloc, tape.roster)?;
+    let (before, _) = tape.changes.split_at(version);
+    board.apply_all(before);
     Ok(board)
 }
 
@@ -131,7 +126,7 @@ fn show_symbol<W: Write>(
 ) -> Result<(), DrawingFault>
     requires sizes { board.now.sizes ≡ sizes_of roster.now }
     requires sym { sym < length roster.now.syms }
-    ensures shown { is_text form ≡ true → (tape : Tape) → StandsFor board.now tape → OnOk result
+    ensures shown { is_text form ≡ true → (tape : List Change) → StandsFor board.now tape → OnOk result
         (Reports roster.now (view_of (sizes_of roster.now) tape sym) (W.contents answers.old) (W.contents answers.new)) }
     ensures begun { IfErr result (λ fault. is_begun fault ≡ true) }
 {

@@ -1,7 +1,5 @@
 //! A call that is served, and what every subcommand does with it: it opens and reads files, and looks up what words name.
-ghost use Rattle.std.specs.Prelude.{◌≡◌, ◌<◌, ◌≤◌, All, IfOk, IfSome, length, true};
-ghost use Rattle.nms_quote.specs.Roster.{holds, sizes_of};
-ghost use Rattle.nms_quote.specs.declared.TheConstants.{MOST_CHANGES};
+ghost use Rattle.std.specs.Prelude.{◌<◌, IfOk, IfSome, length};
 
 use crate::fault::{About, Fault};
 use crate::request::{Path, Symbol};
@@ -10,9 +8,9 @@ use crate::source::Source;
 use crate::words::Words;
 use nms_codes::Code;
 use nms_fees::{Setup, feed_named};
-use nms_files::read_changes;
-use nms_quote::{Change, Feed, Sym};
+use nms_quote::{Feed, Sym};
 use nms_show::Form;
+use nms_stream::Tape;
 use nms_times::{Times, read_times};
 use std::alloc::Global;
 use std::fs;
@@ -73,15 +71,12 @@ impl<'a, T: Host> Call<'a, T> {
     }
 
     /// The changes of a file.
-    pub(crate) fn read_changes(&self, file: Path<'_>) -> Result<Vec<Change>, Fault>
-        ensures held { IfOk result (λ changes. All (λ change. holds (sizes_of self.now.setup.now.roster) change ≡ true) changes.items) }
-        ensures few { IfOk result (λ changes. length changes.items ≤ MOST_CHANGES) }
-    {
+    pub(crate) fn read_tape(&self, file: Path<'_>) -> Result<Tape<'a>, Fault> {
         let mut source = self.open(file)?;
-        let read = read_changes(self.alloc(), self.setup, &mut source);
+        let read = Tape::read(self.alloc(), self.setup, &mut source);
         source.clear();
         match read {
-            Ok(changes) => Ok(changes),
+            Ok(tape) => Ok(tape),
             Err(fault) => {
                 let fault = Fault::of(Code::of_changes(fault), file.about);
                 Err(fault.with_reason(source.failed()))

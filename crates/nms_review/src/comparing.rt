@@ -1,7 +1,4 @@
 //! The subcommand `compare`: compares a vendor's own national bests with those of a file of changes.
-ghost use Rattle.std.specs.Prelude.{◌≡◌, ◌≤◌, All, length, true};
-ghost use Rattle.nms_quote.specs.Roster.{holds, sizes_of};
-ghost use Rattle.nms_quote.specs.declared.TheConstants.{MOST_CHANGES};
 
 use crate::call::{Call, Host};
 use crate::fault::Fault;
@@ -9,25 +6,13 @@ use crate::notices::refuse_map;
 use crate::request::Compare;
 use crate::vendor::{Rows, map_document, open_vendor};
 use nms_compare::{
-    CompareFault, Counts, NationalMapping, Shown, compare_rows, keys_of, national_mapping_of,
-    write_counts,
+    CompareFault, Counts, Keyed, NationalMapping, Shown, compare_rows, keys_of,
+    national_mapping_of, write_counts,
 };
 use nms_import::Kind;
-use nms_quote::{Change, Roster};
 use nms_show::Ending;
 use std::alloc::Global;
 use std::io::Write;
-
-/// The changes of a file, each with its place in the order of the mapping.
-#[derive(Clone, Copy)]
-struct Keyed<'a> {
-    roster: &'a Roster,
-    changes: &'a [Change],
-    keys: &'a [u64],
-    ghost held: { All (λ change. holds (sizes_of roster.now) change ≡ true) changes.now },
-    ghost few: { length changes.now ≤ MOST_CHANGES },
-    ghost each: { length keys.now ≡ length changes.now },
-}
 
 /// Compares a vendor's national bests with those of a file of changes. It is doubted if a row differs or is malformed.
 pub(crate) fn serve_compare<T: Host, W: Write>(
@@ -54,15 +39,10 @@ fn compare_by<T: Host, W: Write>(
     answers: &mut W,
 ) -> Result<Ending, Fault> {
     let times = call.read(compare.times)?;
-    let changes = call.read_changes(compare.changes)?;
-    let keys = match keys_of(call.alloc(), mapping.order(), &changes, &times) {
-        Ok(keys) => keys,
+    let tape = call.read_tape(compare.changes)?;
+    let keyed = match keys_of(call.alloc(), mapping.order(), &tape, &times) {
+        Ok(keyed) => keyed,
         Err(fault) => return Err(fault_in(fault, compare)),
-    };
-    let keyed = Keyed {
-        roster: call.setup.roster(),
-        changes: &changes,
-        keys: &keys,
     };
     let mut rows = open_vendor(call, compare.national, mapping.file())?;
     let compared = compare_with(call, compare, mapping, &keyed, &mut rows, answers);
@@ -84,15 +64,7 @@ fn compare_with<T: Host, W: Write>(
         Err(fault) => return refuse_map(call, compare.national, Kind::Bests, &fault),
     };
     let mut shown = Shown::new(answers, compare.national.name);
-    let compared = compare_rows(
-        call.alloc(),
-        &vendor,
-        keyed.roster,
-        keyed.changes,
-        keyed.keys,
-        &mut rows.reader,
-        &mut shown,
-    );
+    let compared = compare_rows(call.alloc(), &vendor, keyed, &mut rows.reader, &mut shown);
     match compared {
         Ok(counts) => tell_counts(&counts, compare, answers),
         Err(fault) => Err(fault_in(fault, compare)),

@@ -3,3 +3,4 @@ mod QuotedFacts
 mod LineFacts
 mod FollowFacts
 mod PieceFacts
+mod ReplayFacts

@@ -10,5 +10,7 @@ pub mod Following
 pub mod Laws
 pub mod Pieces
 pub mod Quoted
+pub mod Replays
 pub mod Stream
 pub mod StreamFile
+pub mod Tapes

@@ -1,9 +1,7 @@
 //! A whole stream, written in pieces: `specs/Stream`, `specs/StreamFile`.
-ghost use Rattle.std.specs.Prelude.{◌≡◌, ◌<◌, ◌≤◌, ◌++◌, ◌∷◌, [], All, length, true, false, IfErr, IfSome, OnErr, OnOk};
+ghost use Rattle.std.specs.Prelude.{◌≡◌, ◌<◌, ◌++◌, ◌∷◌, [], List, length, true, false, IfErr, IfSome, OnErr, OnOk};
 ghost use Rattle.std.specs.Io.KnownBytes.{Appends};
-ghost use Rattle.nms_quote.specs.Roster.{holds, sizes_of};
-ghost use Rattle.nms_quote.specs.Tape.{Tape};
-ghost use Rattle.nms_quote.specs.declared.TheConstants.{MOST_CHANGES};
+ghost use Rattle.nms_quote.specs.Roster.{sizes_of};
 ghost use Rattle.nms_board.specs.Cells.{takes};
 ghost use Rattle.nms_lines.specs.Text.{text_of};
 ghost use Rattle.nms_lines.specs.Written.{AppendsPart, WritesPart};
@@ -11,12 +9,13 @@ ghost use Rattle.nms_stream.specs.Following.{Follows, IsOf};
 ghost use Rattle.nms_stream.specs.Pieces.{Sends};
 ghost use Rattle.nms_stream.specs.Stream.{lines_between, stream_text};
 ghost use Rattle.nms_stream.specs.StreamFile.{IsStreamFault, StreamsFile, is_begun, is_of_file};
+ghost use Rattle.nms_stream.specs.Tapes.{sizes_in};
 
 use crate::following::{Follower, follow, open};
 use crate::line::tell_header;
 use crate::stream_fault::StreamFault;
+use crate::tape::Tape;
 use nms_fees::Setup;
-use nms_files::read_changes;
 use nms_quote::{Change, Roster, Sym};
 use nms_text::tell;
 use std::alloc::Global;
@@ -43,31 +42,28 @@ pub fn stream_file<R: Read + Drop, W: Write>(
     ensures cut { IfErr result (λ fault. is_begun fault ≡ true → WritesPart (StreamsFile setup.now (R.remaining source) asked (W.contents writer.old)) (W.contents writer.old) (W.contents writer.new)) }
     ensures unwritten { IfErr result (λ fault. is_begun fault ≡ false → W.contents writer.new ≡ W.contents writer.old) }
 {
-    match read_changes(alloc, setup, source) {
-        Ok(changes) => stream(alloc, setup.roster(), &changes, asked, writer),
+    match Tape::read(alloc, setup, source) {
+        Ok(tape) => stream(alloc, &tape, asked, writer),
         Err(fault) => Err(StreamFault::Changes(fault)),
     }
 }
 
-/// Streams changes of a roster, as `stream_file` streams those of a file.
+/// Streams a tape, as `stream_file` streams the changes of a file.
 pub fn stream<W: Write>(
     alloc: Global,
-    roster: &Roster,
-    changes: &[Change],
+    tape: &Tape<'_>,
     asked: Option<Sym>,
     writer: &mut W,
 ) -> Result<(), StreamFault>
-    requires asked { IfSome asked (λ sym. sym < length roster.now.syms) }
-    requires held { All (λ change. holds (sizes_of roster.now) change ≡ true) changes.now }
-    requires few { length changes.now ≤ MOST_CHANGES }
-    ensures written { OnOk result (Appends (W.contents writer.old) (W.contents writer.new) (stream_text roster.now asked changes.now)) }
-    ensures cut { OnErr result (AppendsPart (W.contents writer.old) (W.contents writer.new) (stream_text roster.now asked changes.now)) }
+    requires { IfSome asked (λ sym. sym < length tape.now.roster.now.syms) }
+    ensures written { OnOk result (Appends (W.contents writer.old) (W.contents writer.new) (stream_text tape.now.roster.now asked tape.now.changes.items)) }
+    ensures cut { OnErr result (AppendsPart (W.contents writer.old) (W.contents writer.new) (stream_text tape.now.roster.now asked tape.now.changes.items)) }
     ensures unwritten { IfErr result (λ fault. is_begun fault ≡ false → W.contents writer.new ≡ W.contents writer.old) }
     ensures own { IfErr result (λ fault. is_of_file fault ≡ false) }
 {
     let mut out = Vec::new(alloc);
-    match open(alloc, roster) {
-        Ok(mut follower) => stream_along(&mut follower, roster, changes, &asked, &mut out, writer),
+    match open(alloc, tape.roster) {
+        Ok(mut follower) => stream_along(&mut follower, tape, &asked, &mut out, writer),
         Err(fault) => Err(StreamFault::Board(fault)),
     }
 }
@@ -75,27 +71,24 @@ pub fn stream<W: Write>(
 /// Writes the header, and the lines along the changes.
 fn stream_along<W: Write>(
     follower: &mut Follower,
-    roster: &Roster,
-    changes: &[Change],
+    tape: &Tape<'_>,
     asked: &Option<Sym>,
     out: &mut Vec<u8>,
     writer: &mut W,
 ) -> Result<(), StreamFault>
-    requires of { IsOf (sizes_of roster.now) follower.old }
-    requires first { Follows (sizes_of roster.now) asked.now follower.old [] }
+    requires of { IsOf (sizes_in tape.now) follower.old }
+    requires first { Follows (sizes_in tape.now) asked.now follower.old [] }
     requires empty { out.old.items ≡ [] }
-    requires asked { IfSome asked.now (λ sym. sym < length roster.now.syms) }
-    requires held { All (λ change. holds (sizes_of roster.now) change ≡ true) changes.now }
-    requires few { length changes.now ≤ MOST_CHANGES }
-    ensures written { OnOk result (Appends (W.contents writer.old) (W.contents writer.new) (stream_text roster.now asked.now changes.now)) }
-    ensures cut { OnErr result (AppendsPart (W.contents writer.old) (W.contents writer.new) (stream_text roster.now asked.now changes.now)) }
+    requires asked { IfSome asked.now (λ sym. sym < length tape.now.roster.now.syms) }
+    ensures written { OnOk result (Appends (W.contents writer.old) (W.contents writer.new) (stream_text tape.now.roster.now asked.now tape.now.changes.items)) }
+    ensures cut { OnErr result (AppendsPart (W.contents writer.old) (W.contents writer.new) (stream_text tape.now.roster.now asked.now tape.now.changes.items)) }
     ensures begun { IfErr result (λ fault. is_begun fault ≡ true) }
 {
     if tell_header(out).is_err() {
         return Err(StreamFault::NoMemory);
     }
-    for change in changes {
-        advance(follower, roster, change, asked, out, writer)?;
+    for change in &tape.changes {
+        advance(follower, tape.roster, change, asked, out, writer)?;
     }
     send(out, writer)
 }
@@ -113,12 +106,12 @@ fn advance<W: Write>(
     requires takes { takes follower.old.board change.now ≡ true }
     requires asked { IfSome asked.now (λ sym. sym < length roster.now.syms) }
     ensures of { IsOf (sizes_of roster.now) follower.new }
-    ensures follows { (tape : Tape) → Follows (sizes_of roster.now) asked.now follower.old tape
+    ensures follows { (tape : List Change) → Follows (sizes_of roster.now) asked.now follower.old tape
         → OnOk result (Follows (sizes_of roster.now) asked.now follower.new (tape ++ change.now ∷ [])) }
-    ensures sends { (tape : Tape) → Follows (sizes_of roster.now) asked.now follower.old tape
+    ensures sends { (tape : List Change) → Follows (sizes_of roster.now) asked.now follower.old tape
         → OnOk result (Sends (W.contents writer.old) (W.contents writer.new) out.old.items
         (text_of (lines_between roster.now asked.now tape (tape ++ change.now ∷ []))) out.new.items) }
-    ensures cut { (tape : Tape) → Follows (sizes_of roster.now) asked.now follower.old tape
+    ensures cut { (tape : List Change) → Follows (sizes_of roster.now) asked.now follower.old tape
         → OnErr result (AppendsPart (W.contents writer.old) (W.contents writer.new)
         (out.old.items ++ text_of (lines_between roster.now asked.now tape (tape ++ change.now ∷ [])))) }
     ensures begun { IfErr result (λ fault. is_begun fault ≡ true) }

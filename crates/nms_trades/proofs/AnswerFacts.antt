@@ -69,32 +69,42 @@ pub anyway_failed : {A E P : Type 0} (result : Result A E) → P → OnErr resul
 anyway_failed (Ok x) holds = tt
 anyway_failed (Err e) holds = holds
 
--- a refused record that stands before
-pub text-before : (number : Option ℕ) (one : Refusal) (rest : List Refusal) → is_before number one ≡ true
-    → refused_text number (one ∷ rest) ≡ text_of (refusal_record one ∷ []) ++ refused_text number rest
-text-before number one rest before =
+-- what is left from a place on is what stands there, and what stands after it
+left-at : {A : Type 0} (all : List A) (place : ℕ) (one : A) → place < length all → one ≡ get_or all place one
+    → drop place all ≡ one ∷ drop (place + 1) all
+left-at all place one below read = drop_more all place one below ∙ ap (λ it. it ∷ drop (place + 1) all) (sym read)
+
+-- the record at a place stands before
+pub text-before : (number : Option ℕ) (refused : List Refusal) (place : ℕ) (one : Refusal) → place < length refused
+    → one ≡ get_or refused place one → is_before number one ≡ true
+    → refused_text number (drop place refused)
+    ≡ text_of (refusal_record one ∷ []) ++ refused_text number (drop (place + 1) refused)
+text-before number refused place one below read before =
+    let rest = drop (place + 1) refused in
     let own = record_text (refusal_record one) in
     let later = refused_text number rest in
-    ap (λ (xs : List Refusal). text_of (map refusal_record xs))
+    ap (refused_text number) (left-at refused place one below read)
+    ∙ ap (λ (xs : List Refusal). text_of (map refusal_record xs))
     (take_while-cons (is_before number) one rest
     ∙ ap (λ b. cond b (one ∷ take (count_before number rest) rest) []) before)
     ∙ ap (λ (t : List ℕ). t ++ later) (sym (append-nil own))
 
-pub left-before : (number : Option ℕ) (one : Refusal) (rest : List Refusal) → is_before number one ≡ true
-    → refused_left number (one ∷ rest) ≡ refused_left number rest
-left-before number one rest before =
+pub left-before : (number : Option ℕ) (refused : List Refusal) (place : ℕ) (one : Refusal) → place < length refused
+    → one ≡ get_or refused place one → is_before number one ≡ true
+    → refused_left number (drop place refused) ≡ refused_left number (drop (place + 1) refused)
+left-before number refused place one below read before =
+    let rest = drop (place + 1) refused in
     let next : 1 + count_before number rest ≡ suc (count_before number rest) = omega arith in
-    ap (λ b. drop (cond b (1 + count_before number rest) 0) (one ∷ rest)) before ∙ ap (λ n. drop n (one ∷ rest)) next
+    ap (refused_left number) (left-at refused place one below read)
+    ∙ ap (λ b. drop (cond b (1 + count_before number rest) 0) (one ∷ rest)) before ∙ ap (λ n. drop n (one ∷ rest)) next
 
--- one that stands after
-pub text-after : (number : Option ℕ) (one : Refusal) (rest : List Refusal) → is_before number one ≡ false
-    → refused_text number (one ∷ rest) ≡ []
-text-after number one rest after =
-    ap (λ b. text_of (map refusal_record (take (cond b (1 + count_before number rest) 0) (one ∷ rest)))) after
-
-pub left-after : (number : Option ℕ) (one : Refusal) (rest : List Refusal) → is_before number one ≡ false
-    → refused_left number (one ∷ rest) ≡ one ∷ rest
-left-after number one rest after = ap (λ b. drop (cond b (1 + count_before number rest) 0) (one ∷ rest)) after
+-- it stands after
+pub text-after : (number : Option ℕ) (refused : List Refusal) (place : ℕ) (one : Refusal) → place < length refused
+    → one ≡ get_or refused place one → is_before number one ≡ false → refused_text number (drop place refused) ≡ []
+text-after number refused place one below read after =
+    let rest = drop (place + 1) refused in
+    ap (refused_text number) (left-at refused place one below read)
+    ∙ ap (λ b. text_of (map refusal_record (take (cond b (1 + count_before number rest) 0) (one ∷ rest)))) after
 
 -- if there is no record after them, all stand before
 all_before : (refused : List Refusal) → take (count_before None refused) refused ≡ refused
@@ -144,7 +154,5 @@ pub order-at : (roster : Listing) (found : List (Option Finding)) (place : ℕ) 
     ++ (text_of (answer_records roster (Judged execution (found_at found place)))
     ++ text_of_answers roster (in_order found (place + 1) (drop (place + 1) executions) (refused_left (Some execution.number) refused)))
 order-at roster found place executions refused execution below read =
-    let is : drop place executions ≡ execution ∷ drop (place + 1) executions =
-    drop_more executions place execution below ∙ ap (λ (it : Execution). it ∷ drop (place + 1) executions) (sym read) in
-    ap (λ list. text_of_answers roster (in_order found place list refused)) is
+    ap (λ list. text_of_answers roster (in_order found place list refused)) (left-at executions place execution below read)
     ∙ order-next roster found place execution (drop (place + 1) executions) refused

@@ -10,15 +10,15 @@ use Rattle.nms_quote.specs.Roster.{Sizes}
 use Rattle.nms_quote.specs.Tape.{Tape, version}
 use Rattle.nms_quote.specs.declared.side_quote.Side.{Side}
 use Rattle.nms_quote.specs.declared.side_quote.Side.TheVariants.{Bid, Offer}
-use Rattle.nms_quote.specs.declared.change.Change.{Change}
-use Rattle.nms_board.specs.Cells.{Board, StandsFor, after}
+use Rattle.nms_board.specs.Cells.{Board}
 use Rattle.nms_board.specs.Quotation.{quotation_of, quotations}
 use Rattle.nms_board.specs.Ranking.{IsRankOrder, better_price, ranked, ranks_above}
-use Rattle.nms_board.specs.Shown.{rows_held}
+use Rattle.nms_board.specs.Shown.{rows_held, seen_on}
 use Rattle.nms_board.specs.View.{AreRows, Seen, rows_on, view_of}
 use Rattle.nms_board.specs.declared.row.Row.{Row}
 use Rattle.nms_board.proofs.Offered.{rows_in_order, seen_stands}
 use Rattle.nms_rules.specs.Through.{is_through}
+use Rattle.nms_stream.specs.Replays.{IsAt}
 use Rattle.nms_trades.specs.Around.{goes_through}
 use Rattle.nms_trades.specs.Bests.{AreBests, best_at, best_price, limits_of}
 use Rattle.nms_trades.specs.Judged.{best_protected, whole_price}
@@ -157,19 +157,12 @@ none_past side rows at are past none =
     let nothing_left : best_protected (ranked side rows) ≡ None = ap best_protected (sym all) ∙ none in
     rw nothing_left refl
 
--- what is seen of a symbol that a change does not concern has the best prices that it had
-pub best_stays : (board : Board) (tape : Tape) (change : Change) (symbol n : ℕ) → StandsFor board (version n tape)
-    → StandsFor (after board change) (version (n + 1) tape)
-    → ((side : Side) → rows_held (after board change) symbol side ≡ rows_held board symbol side)
-    → best_at board.sizes tape symbol (n + 1) ≡ best_at board.sizes tape symbol n
-best_stays board tape change symbol n before now same =
-    let was = seen_stands board (version n tape) symbol before in
-    let is = seen_stands (after board change) (version (n + 1) tape) symbol now in
-    let bids : quotations board.sizes (version (n + 1) tape) symbol Bid ≡ quotations board.sizes (version n tape) symbol Bid =
-    ap (λ (s : Seen). s.bids) (sym is) ∙ same Bid ∙ ap (λ (s : Seen). s.bids) was in
-    let offers : quotations board.sizes (version (n + 1) tape) symbol Offer ≡ quotations board.sizes (version n tape) symbol Offer =
-    ap (λ (s : Seen). s.offers) (sym is) ∙ same Offer ∙ ap (λ (s : Seen). s.offers) was in
-    rw (bids, offers) refl
+-- a board shows the best prices of its version
+pub shown_at : (sizes : Sizes) (tape : Tape) (board : Board) (symbol : ℕ) → IsAt sizes tape board
+    → limits_of (seen_on board symbol) ≡ best_at sizes tape symbol board.applied
+shown_at sizes tape board symbol at =
+    ap limits_of (seen_stands board (version board.applied tape) symbol at.stands)
+    ∙ ap (λ (z : Sizes). limits_of (view_of z (version board.applied tape) symbol)) at.same
 
 -- a track that a change leaves
 pub has_stays : (all : ℕ → Limits) (upto : ℕ) (found : Option Track) → all (upto + 1) ≡ all upto → HasTrack all upto found

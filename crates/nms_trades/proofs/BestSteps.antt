@@ -1,76 +1,66 @@
 -- Each symbol's track, and each participant's in it, after one more change.
-use Rattle.std.proofs.Common.{ℕ, ◌≡◌, ◌+◌, ◌<◌, ◌++◌, ◌∷◌, [], true, false, List, arith, inl, inr, ap, subst, sym, length, slice_get, ◌∙◌}
+use Rattle.std.proofs.Common.{ℕ, ◌≡◌, ◌<◌, true, false, List, arith, inl, inr, ap, refl, subst, sym, length, slice_get, ◌∙◌}
 use Rattle.std.specs.Prelude.{Result, Ok, Err, OnOk}
 use Rattle.std.proofs.lemmas.Bool.{cases_Bool}
-use Rattle.std.proofs.lemmas.List.{length-take-le}
-use Rattle.nms_quote.specs.Roster.{holds}
-use Rattle.nms_quote.specs.Tape.{Tape, version}
+use Rattle.nms_quote.specs.Roster.{Sizes, holds}
+use Rattle.nms_quote.specs.Tape.{Tape}
 use Rattle.nms_quote.specs.declared.side_quote.Side.{Side}
+use Rattle.nms_quote.specs.declared.side_quote.Side.TheVariants.{Bid, Offer}
 use Rattle.nms_quote.specs.declared.change.Change.{Change}
-use Rattle.nms_board.specs.Cells.{Board, StandsFor, after, place_of}
+use Rattle.nms_board.specs.Cells.{Board, place_of}
 use Rattle.nms_board.specs.History.{concerns}
 use Rattle.nms_board.specs.Shown.{rows_held, seen_on}
-use Rattle.nms_board.proofs.Offered.{seen_stands}
+use Rattle.nms_stream.specs.Replays.{IsStep}
 use Rattle.nms_trades.specs.Bests.{AreBests, best_at, limits_of}
 use Rattle.nms_trades.specs.Parts.{AreParts, part_at, part_held, touches}
-use Rattle.nms_trades.specs.Track.{HasTrack, IsNoted}
+use Rattle.nms_trades.specs.Track.{IsNoted}
 use Rattle.nms_trades.specs.declared.track.Track.{Track}
-use Rattle.nms_trades.proofs.BestFacts.{best_stays, has_stays}
-use Rattle.nms_trades.proofs.PartFacts.{held_at, part_stays}
+use Rattle.nms_trades.proofs.BestFacts.{has_stays, shown_at}
+use Rattle.nms_trades.proofs.PartFacts.{held_as, part_stays}
 
 -- a symbol that the change concerns is noted, and another one shows what it did
-pub bests_step : {T E : Type 0} (r : Result T E) (board : Board) (change : Change) (tape : Tape) (n : ℕ) (old new : List Track)
-    → StandsFor board (version n tape) → n < length tape → version (n + 1) tape ≡ version n tape ++ change ∷ []
-    → StandsFor (after board change) (version n tape ++ change ∷ []) → length old ≡ length board.sizes.lots
+pub bests_step : {T E : Type 0} (r : Result T E) (sizes : Sizes) (tape : Tape) (was now : Board) (change : Change) (old new : List Track)
+    → IsStep sizes tape was now change → length old ≡ length sizes.lots
     → ((s : ℕ) → s < length old → concerns s change ≡ true
-    → OnOk r (IsNoted (board.applied + 1) (limits_of (seen_on (after board change) s)) (slice_get old s) (slice_get new s)))
+    → OnOk r (IsNoted now.applied (limits_of (seen_on now s)) (slice_get old s) (slice_get new s)))
     → ((s : ℕ) → s < length old → concerns s change ≡ false → OnOk r (slice_get new s ≡ slice_get old s))
-    → ((s : ℕ) (side : Side) → concerns s change ≡ false → rows_held (after board change) s side ≡ rows_held board s side)
-    → AreBests board.sizes tape n old → OnOk r (AreBests board.sizes tape (n + 1) new)
-bests_step (Err e) board change tape n old new stands below more now count concerned others stay bests = tt
-bests_step (Ok t) board change tape n old new stands below more now count concerned others stay bests =
-    let later : StandsFor (after board change) (version (n + 1) tape) =
-    subst (StandsFor (after board change)) (sym more) now in
-    let applied : board.applied + 1 ≡ n + 1 =
-    ap (λ k. k + 1) (stands.applied ∙ length-take-le n tape (omega arith)) in
-    λ s within. elim (cases_Bool (concerns s change)) [
-      | inl altered ↦
-          subst (λ k. HasTrack (best_at board.sizes tape s) k (slice_get new s)) applied
-          (concerned s (omega (arith, count, within)) altered (best_at board.sizes tape s) n (bests s within) applied
-          (ap (best_at board.sizes tape s) applied
-          ∙ ap limits_of (sym (seen_stands (after board change) (version (n + 1) tape) s later))))
+    → ((s : ℕ) (side : Side) → concerns s change ≡ false → rows_held now s side ≡ rows_held was s side)
+    → AreBests sizes tape was.applied old → OnOk r (AreBests sizes tape now.applied new)
+bests_step (Err e) sizes tape was now change old new step count concerned others stay bests = tt
+bests_step (Ok t) sizes tape was now change old new step count concerned others stay bests = λ s within.
+    let all = best_at sizes tape s in
+    let shown : limits_of (seen_on now s) ≡ all now.applied = shown_at sizes tape now s step.at in
+    elim (cases_Bool (concerns s change)) [
+      | inl altered ↦ concerned s (omega (arith, count, within)) altered all was.applied (bests s within) step.more (sym shown)
       | inr kept ↦
-          subst (HasTrack (best_at board.sizes tape s) (n + 1)) (sym (others s (omega (arith, count, within)) kept))
-          (has_stays (best_at board.sizes tape s) n (slice_get old s)
-          (best_stays board tape change s n stands later (λ side. stay s side kept)) (bests s within))
+          let same : limits_of (seen_on now s) ≡ limits_of (seen_on was s) = rw (stay s Bid kept, stay s Offer kept) refl in
+          rw (step.more, others s (omega (arith, count, within)) kept)
+          (has_stays all was.applied (slice_get old s)
+          (ap all (sym step.more) ∙ sym shown ∙ same ∙ shown_at sizes tape was s step.before) (bests s within))
     ]
 
 -- a participant that the change touches in a symbol is noted, and another one quotes what it did
-pub parts_step : {T E : Type 0} (r : Result T E) (board : Board) (change : Change) (tape : Tape) (n : ℕ) (old new : List Track)
-    → StandsFor board (version n tape) → n < length tape → version (n + 1) tape ≡ version n tape ++ change ∷ []
-    → StandsFor (after board change) (version n tape ++ change ∷ []) → holds board.sizes change ≡ true
-    → ((s part : ℕ) → s < length board.sizes.lots → part < board.sizes.parts → touches s part change ≡ true
-    → OnOk r (IsNoted (board.applied + 1) (part_held (after board change) s part) (slice_get old (place_of part s))
-    (slice_get new (place_of part s))))
-    → ((s part : ℕ) → s < length board.sizes.lots → part < board.sizes.parts → touches s part change ≡ false
+pub parts_step : {T E : Type 0} (r : Result T E) (sizes : Sizes) (tape : Tape) (was now : Board) (change : Change) (old new : List Track)
+    → IsStep sizes tape was now change
+    → ((s part : ℕ) → s < length sizes.lots → part < sizes.parts → touches s part change ≡ true
+    → OnOk r (IsNoted now.applied (part_held now s part) (slice_get old (place_of part s)) (slice_get new (place_of part s))))
+    → ((s part : ℕ) → s < length sizes.lots → part < sizes.parts → touches s part change ≡ false
     → OnOk r (slice_get new (place_of part s) ≡ slice_get old (place_of part s)))
-    → AreParts board.sizes tape n old → OnOk r (AreParts board.sizes tape (n + 1) new)
-parts_step (Err e) board change tape n old new stands below more now held touched others parts = tt
-parts_step (Ok t) board change tape n old new stands below more now held touched others parts =
-    let later : StandsFor (after board change) (version (n + 1) tape) =
-    subst (StandsFor (after board change)) (sym more) now in
-    let applied : board.applied + 1 ≡ n + 1 =
-    ap (λ k. k + 1) (stands.applied ∙ length-take-le n tape (omega arith)) in
-    λ s part in_syms in_parts. elim (cases_Bool (touches s part change)) [
-      | inl altered ↦
-          subst (λ k. HasTrack (part_at board.sizes tape s part) k (slice_get new (place_of part s))) applied
-          (touched s part in_syms in_parts altered (part_at board.sizes tape s part) n (parts s part in_syms in_parts) applied
-          (ap (part_at board.sizes tape s part) applied
-          ∙ sym (held_at (after board change) tape s part (n + 1) later in_syms in_parts)))
+    → AreParts sizes tape was.applied old → OnOk r (AreParts sizes tape now.applied new)
+parts_step (Err e) sizes tape was now change old new step touched others parts = tt
+parts_step (Ok t) sizes tape was now change old new step touched others parts = λ s part in_syms in_parts.
+    let all = part_at sizes tape s part in
+    let held : part_held now s part ≡ all now.applied = held_as sizes tape now s part step.at in_syms in_parts in
+    elim (cases_Bool (touches s part change)) [
+      | inl altered ↦ touched s part in_syms in_parts altered all was.applied (parts s part in_syms in_parts) step.more (sym held)
       | inr kept ↦
-          subst (HasTrack (part_at board.sizes tape s part) (n + 1)) (sym (others s part in_syms in_parts kept))
-          (has_stays (part_at board.sizes tape s part) n (slice_get old (place_of part s))
-          (sym (held_at (after board change) tape s part (n + 1) later in_syms in_parts)
-          ∙ part_stays board change s part stands.narrow held in_parts kept ∙ held_at board tape s part n stands in_syms in_parts)
+          let own = sym step.before.same in
+          let same : part_held now s part ≡ part_held was s part =
+          ap (λ (b : Board). part_held b s part) step.moved
+          ∙ part_stays was change s part step.before.stands.narrow (subst (λ (z : Sizes). holds z change ≡ true) own step.held)
+          (subst (λ (z : Sizes). part < z.parts) own in_parts) kept in
+          rw (step.more, others s part in_syms in_parts kept)
+          (has_stays all was.applied (slice_get old (place_of part s))
+          (ap all (sym step.more) ∙ sym held ∙ same ∙ held_as sizes tape was s part step.before in_syms in_parts)
           (parts s part in_syms in_parts))
     ]

@@ -1,4 +1,3 @@
-mod AlongFacts
 mod AnswerFacts
 mod BestFacts
 mod BestSteps

@@ -1,7 +1,7 @@
 -- The protected prices of a participant in a symbol: what a board holds of them, when a change leaves them, and when they
 -- are inferior to a price.
 use Rattle.std.proofs.Common.{ℕ, ◌≡◌, ◌≢◌, ◌+◌, ◌*◌, ◌<◌, ◌≤◌, ◌==◌, ◌&&◌, zero, suc, Bool, true, false, List, arith}
-use Rattle.std.proofs.Common.{refl, sym, ap, ◌∙◌, length, nat_lt, slice_get, slice_index, Option, Some, None, unwrap_or, eq-eqb, ltb-true}
+use Rattle.std.proofs.Common.{refl, sym, ap, subst, ◌∙◌, length, nat_lt, slice_get, slice_index, Option, Some, None, unwrap_or, eq-eqb, ltb-true}
 use Rattle.std.proofs.lemmas.Bool.{and_from, and_parts, false≢true}
 use Rattle.std.proofs.lemmas.List.{get_or-set_other}
 use Rattle.std.proofs.lemmas.Option.{unwrap_or-slice_get}
@@ -20,6 +20,7 @@ use Rattle.nms_board.specs.declared.TheConstants.{MOST_ROWS}
 use Rattle.nms_board.specs.declared.cell.Cell.{Cell}
 use Rattle.nms_board.specs.declared.row.Row.{Row}
 use Rattle.nms_board.proofs.Offered.{change_cell_elsewhere}
+use Rattle.nms_stream.specs.Replays.{IsAt}
 use Rattle.nms_trades.specs.Around.{is_inferior}
 use Rattle.nms_trades.specs.Parts.{AreParts, limits_both, part_at, part_held, touches}
 use Rattle.nms_trades.specs.Track.{HasTrack, holds_of, nothing}
@@ -42,13 +43,21 @@ row_is board tape symbol side part stands in_syms in_parts =
     rw (stands.cells part symbol in_parts in_syms, lot_is) (cell_row (lot_at board.sizes tape symbol) part symbol side tape)
 
 -- the prices that a board holds are those of its version
-pub held_at : (board : Board) (tape : Tape) (sym part n : ℕ) → StandsFor board (version n tape) → sym < length board.sizes.lots
+held_at : (board : Board) (tape : Tape) (sym part n : ℕ) → StandsFor board (version n tape) → sym < length board.sizes.lots
     → part < board.sizes.parts → part_held board sym part ≡ part_at board.sizes tape sym part n
 held_at board tape symbol part n stands in_syms in_parts =
     rw (
       row_is board (version n tape) symbol Bid part stands in_syms in_parts,
       row_is board (version n tape) symbol Offer part stands in_syms in_parts,
     ) refl
+
+-- so a board holds those of its version
+pub held_as : (sizes : Sizes) (tape : Tape) (board : Board) (sym part : ℕ) → IsAt sizes tape board → sym < length sizes.lots
+    → part < sizes.parts → part_held board sym part ≡ part_at sizes tape sym part board.applied
+held_as sizes tape board symbol part at =
+    subst (λ (z : Sizes). symbol < length z.lots → part < z.parts
+    → part_held board symbol part ≡ part_at z tape symbol part board.applied) at.same
+    (held_at board tape symbol part board.applied at.stands)
 
 -- the cells of two participants, or in two symbols, are two
 apart : (p s part sym : ℕ) → p < MOST_ROWS → part < MOST_ROWS → (p == part && s == sym) ≡ false → place_of p s ≢ place_of part sym

@@ -1,5 +1,5 @@
 -- Each time is of one of a symbol's shards.
-use Rattle.std.proofs.Common.{ℕ, ◌≡◌, ◌≤◌, ◌<◌, ◌&&◌, ◌∙◌, Bool, true, false, List, [], ◌∷◌, None, Some, suc, nat_le, nat_lt, not, length}
+use Rattle.std.proofs.Common.{ℕ, ◌≡◌, ◌&&◌, ◌∙◌, Bool, true, false, List, [], ◌∷◌, None, Some, suc, nat_le, not, length}
 use Rattle.std.proofs.Common.{if◌then◌else◌, ap, arith, inl, inr, refl, sym}
 use Rattle.std.proofs.lemmas.Bool.{cases_lt, false≢true, le-leb, lt-leb, lt-ltb, le-ltb}
 use Rattle.nms_show.proofs.Offered.{both_true}

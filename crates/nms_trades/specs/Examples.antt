@@ -1,5 +1,5 @@
 -- Worked examples of what is found and written of executions. The right-hand sides are worked out by hand.
-use Rattle.std.specs.Prelude.{ℕ, ◌≡◌, true, false, [], ◌∷◌, codes, map, pos, Option, Some, None}
+use Rattle.std.specs.Prelude.{ℕ, ◌≡◌, true, false, [], ◌∷◌, codes, map, pos, Some, None}
 use Rattle.nms_quote.specs.Members.{nobody}
 use Rattle.nms_quote.specs.Tape.{Tape}
 use Rattle.nms_quote.specs.declared.change.Change.TheVariants as change

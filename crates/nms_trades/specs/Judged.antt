@@ -1,12 +1,11 @@
 -- What is found of an execution: the protected quotations that it trades through in the version in force (17 CFR 242.600,
 -- "trade-through"; 242.611(a)), and whether the market was crossed (242.611(b)(4)).
-use Rattle.std.specs.Prelude.{ℕ, ◌≡◌, ◌≤◌, ◌+◌, ◌/◌, ◌++◌, Bool, false, List, filter, length, map, nat_lt, Option, Some, None}
+use Rattle.std.specs.Prelude.{ℕ, ◌≡◌, ◌+◌, ◌/◌, ◌++◌, Bool, false, List, filter, map, nat_lt, Option, Some, None}
 use Rattle.std.specs.List.{find}
 use Rattle.nms_quote.specs.Roster.{Sizes}
 use Rattle.nms_quote.specs.Tape.{Tape, version}
 use Rattle.nms_quote.specs.declared.side_quote.Side.{Side}
 use Rattle.nms_quote.specs.declared.side_quote.Side.TheVariants.{Bid, Offer}
-use Rattle.nms_board.specs.Cells.{Board, StandsFor}
 use Rattle.nms_board.specs.Ranking.{ranked, ranked_at}
 use Rattle.nms_board.specs.View.{Seen, rows_on, view_of}
 use Rattle.nms_board.specs.declared.row.Row.{Row}
@@ -58,9 +57,3 @@ pub record IsFoundOn (seen : Seen) (millionths : ℕ) (finding : Finding) : Type
 abbrev pub IsFound : Sizes → Tape → Execution → Finding → Type 0
 IsFound sizes tape execution finding =
     IsFoundOn (view_of sizes (version execution.version tape) execution.sym) execution.millionths finding
-
--- a board of a roster's sizes that stands for the first of the changes
-pub record GoesAlong (sizes : Sizes) (tape : Tape) (board : Board) : Type 0 where
-  pub same : board.sizes ≡ sizes
-  pub within : board.applied ≤ length tape
-  pub stands : StandsFor board (version board.applied tape)

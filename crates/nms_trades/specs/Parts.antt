@@ -1,5 +1,5 @@
 -- The protected prices of a participant in a symbol in each version (17 CFR 242.600, "protected bid or protected offer").
-use Rattle.std.specs.Prelude.{ℕ, ◌==◌, ◌<◌, ◌&&◌, Bool, List, length, slice_get, Option, Some, None, if◌then◌else◌}
+use Rattle.std.specs.Prelude.{ℕ, ◌≡◌, ◌==◌, ◌*◌, ◌<◌, ◌≤◌, ◌&&◌, Bool, List, length, slice_get, Option, Some, None, if◌then◌else◌}
 use Rattle.nms_quote.specs.Roster.{Sizes}
 use Rattle.nms_quote.specs.Tape.{Tape, version}
 use Rattle.nms_quote.specs.declared.side_quote.Side.TheVariants.{Bid, Offer}
@@ -8,6 +8,7 @@ use Rattle.nms_quote.specs.declared.change.Change.TheVariants as change
 use Rattle.nms_board.specs.Cells.{Board, place_of}
 use Rattle.nms_board.specs.Quotation.{quotation_of}
 use Rattle.nms_board.specs.Shown.{row_held}
+use Rattle.nms_board.specs.declared.TheConstants.{MOST_ROWS}
 use Rattle.nms_board.specs.declared.row.Row.{Row}
 use Rattle.nms_trades.specs.Track.{HasTrack}
 use Rattle.nms_trades.specs.declared.track.Limits.{Limits}
@@ -36,6 +37,12 @@ abbrev pub AreParts : Sizes → Tape → (upto : ℕ) → List Track → Type 0
 AreParts sizes tape upto tracks =
     (sym part : ℕ) → sym < length sizes.lots → part < sizes.parts
     → HasTrack (part_at sizes tape sym part) upto (slice_get tracks (place_of part sym))
+
+-- the tracks of them in all versions, `MOST_ROWS` places a symbol
+pub record ArePartsOf (sizes : Sizes) (tape : Tape) (tracks : List Track) : Type 0 where
+  pub narrow : sizes.parts ≤ MOST_ROWS
+  pub count : length tracks ≡ MOST_ROWS * length sizes.lots
+  pub parts : AreParts sizes tape (length tape) tracks
 
 -- whether a change can alter what a participant quotes in a symbol
 abbrev pub touches : (sym part : ℕ) → Change → Bool

@@ -1,63 +1,34 @@
 //! The best protected prices of each symbol in each version: `specs/Bests`.
-ghost use Rattle.std.specs.Prelude.{◌≡◌, ◌≢◌, ◌≤◌, ◌<◌, ℕ, ◌+◌, ◌++◌, ◌∷◌, [], All, IfOk, OnOk, false, length, slice_get, true};
-ghost use Rattle.nms_board.specs.Cells.{StandsFor, after, takes};
+ghost use Rattle.std.specs.Prelude.{◌≡◌, ◌≢◌, ◌<◌, ℕ, IfOk, OnOk, false, length, slice_get, true};
 ghost use Rattle.nms_board.specs.History.{concerns};
 ghost use Rattle.nms_board.specs.Ranking.{ranked};
 ghost use Rattle.nms_board.specs.Shown.{rows_held, seen_on};
-ghost use Rattle.nms_quote.specs.Roster.{holds, sizes_of};
-ghost use Rattle.nms_quote.specs.Tape.{Tape, version};
-ghost use Rattle.nms_quote.specs.declared.TheConstants.{MOST_CHANGES};
+ghost use Rattle.nms_quote.specs.Roster.{holds};
+ghost use Rattle.nms_stream.specs.Tapes.{sizes_in};
 ghost use Rattle.nms_trades.specs.Bests.{AreBests, best_price, limits_of};
 ghost use Rattle.nms_trades.specs.Track.{AreNoted, IsNoted};
 
 use crate::track::{Limits, Track, no_tracks, note_at};
 use nms_board::{BoardFault, Boards, other_symbols_stay};
-use nms_quote::{Change, Roster, Side, Sym};
+use nms_quote::{Change, Side, Sym};
+use nms_stream::{Replay, Tape};
 use std::alloc::{AllocError, Global};
 
 /// The best protected prices of each symbol, by its place, in each version of the changes. One board moves along them once.
-pub(crate) fn bests_of(
-    alloc: Global,
-    roster: &Roster,
-    changes: &[Change],
-) -> Result<Vec<Track>, BoardFault>
-    requires held { All (λ change. holds (sizes_of roster.now) change ≡ true) changes.now }
-    requires few { length changes.now ≤ MOST_CHANGES }
-    ensures { IfOk result (λ bests. AreBests (sizes_of roster.now) changes.now (length changes.now) bests.items) }
+pub(crate) fn bests_of(alloc: Global, tape: &Tape<'_>) -> Result<Vec<Track>, BoardFault>
+    ensures { IfOk result (λ bests. AreBests (sizes_in tape.now) tape.now.changes.items (length tape.now.changes.items) bests.items) }
 {
-    let mut board = match Boards::new(alloc, roster) {
-        Ok(board) => board,
-        Err(fault) => return Err(fault),
-    };
-    let Ok(mut bests) = no_tracks(alloc, roster.syms()) else {
+    let mut replay = Replay::open(alloc, tape)?;
+    let Ok(mut bests) = no_tracks(alloc, tape.roster.syms()) else {
         return Err(BoardFault::NoMemory);
     };
-    for change in changes {
-        if take_change(&mut board, change, &mut bests).is_err() {
+    other_symbols_stay();
+    while let Some(change) = replay.step() {
+        if note_change(&replay.board, &change, &mut bests).is_err() {
             return Err(BoardFault::NoMemory);
         }
     }
     Ok(bests)
-}
-
-/// Moves a board over one more change, and notes the best prices of the symbols that it concerns.
-fn take_change(
-    board: &mut Boards,
-    change: &Change,
-    bests: &mut Vec<Track>,
-) -> Result<(), AllocError>
-    requires taken { takes board.old change.now ≡ true }
-    requires count { length bests.old.items ≡ length board.old.sizes.lots }
-    ensures after { board.new ≡ after board.old change.now }
-    ensures stands { (tape : Tape) → StandsFor board.old tape → StandsFor board.new (tape ++ change.now ∷ []) }
-    ensures count { OnOk result (length bests.new.items ≡ length bests.old.items) }
-    ensures bests { (tape : Tape) (n : ℕ) → StandsFor board.old (version n tape) → n < length tape
-        → version (n + 1) tape ≡ version n tape ++ change.now ∷ []
-        → AreBests board.old.sizes tape n bests.old.items → OnOk result (AreBests board.old.sizes tape (n + 1) bests.new.items) }
-{
-    other_symbols_stay();
-    board.apply(*change);
-    note_change(board, change, bests)
 }
 
 /// Notes the best prices after a change, of the symbols that it concerns.

@@ -1,5 +1,5 @@
 //! When an execution took place: versions that are found by their times: `specs/When`.
-ghost use Rattle.std.specs.Prelude.{◌≡◌, ◌≢◌, ◌≤◌, ◌+◌, ℕ, IfErr, IfOk, IfSome, List, None, Some, drop, length, option_copied, slice_index};
+ghost use Rattle.std.specs.Prelude.{◌≡◌, ◌≢◌, ◌≤◌, ◌+◌, IfErr, IfOk, IfSome, None, Some, drop, length, option_copied, slice_index};
 ghost use Rattle.nms_trades.specs.Files.{IsClockFault, IsTimingFault};
 ghost use Rattle.nms_trades.specs.When.{AreOfChanges, IsWithin, at_time, stretch_in, timed, version_by, when_in};
 

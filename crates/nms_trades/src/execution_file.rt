@@ -68,10 +68,8 @@ pub(crate) fn read_executions<R: Read + Drop>(
         executions: Vec::new(alloc),
         refused: Vec::new(alloc),
     };
-    match take_records(&mut reader, &mut row, roster, clock, &mut records) {
-        Ok(()) => Ok(records),
-        Err(fault) => Err(fault),
-    }
+    take_records(&mut reader, &mut row, roster, clock, &mut records)?;
+    Ok(records)
 }
 
 /// Takes the records that are left.

@@ -1,11 +1,9 @@
 //! Which of the quotations that an execution traded through flickered (17 CFR 242.611(b)(8)): `specs/Found`.
-ghost use Rattle.std.specs.Prelude.{◌≡◌, ◌≤◌, ◌<◌, ◌*◌, ℕ, All, IfOk, OnOk, Some, false, length, map, slice_get, true};
-ghost use Rattle.nms_board.specs.declared.TheConstants.{MOST_ROWS};
-ghost use Rattle.nms_quote.specs.Roster.{holds, sizes_of};
-ghost use Rattle.nms_quote.specs.declared.TheConstants.{MOST_CHANGES};
+ghost use Rattle.std.specs.Prelude.{◌≡◌, ◌<◌, ℕ, All, IfOk, OnOk, Some, false, length, map, slice_get, true};
+ghost use Rattle.nms_stream.specs.Tapes.{sizes_in};
 ghost use Rattle.nms_trades.specs.Around.{flickers};
 ghost use Rattle.nms_trades.specs.Found.{IsJudged, IsStanding, IsSteady, has_flickered};
-ghost use Rattle.nms_trades.specs.Parts.{AreParts};
+ghost use Rattle.nms_trades.specs.Parts.{ArePartsOf};
 ghost use Rattle.nms_trades.specs.Reading.{IsOn};
 ghost use Rattle.nms_trades.specs.Turns.{AreAnswered, IsAnswered};
 ghost use Rattle.nms_trades.specs.declared.execution.Execution.{Execution};
@@ -16,7 +14,8 @@ use crate::finding::Finding;
 use crate::parts::{parts_of, place_of};
 use crate::track::{Test, Track, any_version};
 use nms_board::{BoardFault, Row, rows_have_one_rank_order};
-use nms_quote::{Change, Roster, Side};
+use nms_quote::Side;
+use nms_stream::Tape;
 use std::alloc::{AllocError, Global};
 
 /// Says of each quotation that was traded through by an execution with a time whether it flickered.
@@ -25,27 +24,21 @@ use std::alloc::{AllocError, Global};
 /// its symbol within the second before.
 pub(crate) fn judge_flickers(
     alloc: Global,
-    roster: &Roster,
-    changes: &[Change],
+    tape: &Tape<'_>,
     executions: &[Execution],
     findings: &mut Vec<Option<Finding>>,
 ) -> Result<(), BoardFault>
-    requires held { All (λ change. holds (sizes_of roster.now) change ≡ true) changes.now }
-    requires few { length changes.now ≤ MOST_CHANGES }
-    requires on { All (IsOn roster.now (length changes.now)) executions.now }
+    requires on { All (IsOn tape.now.roster.now (length tape.now.changes.items)) executions.now }
     requires places { length findings.old.items ≡ length executions.now }
-    requires found { AreAnswered (IsStanding (sizes_of roster.now) changes.now) executions.now findings.old.items }
+    requires found { AreAnswered (IsStanding (sizes_in tape.now) tape.now.changes.items) executions.now findings.old.items }
     ensures places { length findings.new.items ≡ length findings.old.items }
-    ensures found { OnOk result (AreAnswered (IsJudged (sizes_of roster.now) changes.now) executions.now findings.new.items) }
+    ensures found { OnOk result (AreAnswered (IsJudged (sizes_in tape.now) tape.now.changes.items) executions.now findings.new.items) }
 {
     if !may_flicker(executions, findings) {
         return Ok(());
     }
-    let tracks = match parts_of(alloc, roster, changes) {
-        Ok(tracks) => tracks,
-        Err(fault) => return Err(fault),
-    };
-    match set_all(alloc, roster, changes, &tracks, executions, findings) {
+    let tracks = parts_of(alloc, tape)?;
+    match set_all(alloc, tape, &tracks, executions, findings) {
         Ok(()) => Ok(()),
         Err(_) => Err(BoardFault::NoMemory),
     }
@@ -78,26 +71,22 @@ fn is_steady(execution: &Execution, answer: &Option<Finding>) -> bool
 /// Says of each quotation of each execution whether it flickered.
 fn set_all(
     alloc: Global,
-    roster: &Roster,
-    changes: &[Change],
+    tape: &Tape<'_>,
     tracks: &[Track],
     executions: &[Execution],
     findings: &mut Vec<Option<Finding>>,
 ) -> Result<(), AllocError>
-    requires on { All (IsOn roster.now (length changes.now)) executions.now }
-    requires narrow { length roster.now.parts ≤ MOST_ROWS }
-    requires parts { AreParts (sizes_of roster.now) changes.now (length changes.now) tracks.now }
-    requires count { length tracks.now ≡ MOST_ROWS * length (sizes_of roster.now).lots }
+    requires on { All (IsOn tape.now.roster.now (length tape.now.changes.items)) executions.now }
+    requires parts { ArePartsOf (sizes_in tape.now) tape.now.changes.items tracks.now }
     requires places { length findings.old.items ≡ length executions.now }
-    requires found { AreAnswered (IsStanding (sizes_of roster.now) changes.now) executions.now findings.old.items }
+    requires found { AreAnswered (IsStanding (sizes_in tape.now) tape.now.changes.items) executions.now findings.old.items }
     ensures places { length findings.new.items ≡ length findings.old.items }
-    ensures found { OnOk result (AreAnswered (IsJudged (sizes_of roster.now) changes.now) executions.now findings.new.items) }
+    ensures found { OnOk result (AreAnswered (IsJudged (sizes_in tape.now) tape.now.changes.items) executions.now findings.new.items) }
 {
     for place in 0..executions.len() {
         set_one(
             alloc,
-            roster,
-            changes,
+            tape,
             tracks,
             &executions[place],
             &mut findings[place],
@@ -109,25 +98,22 @@ fn set_all(
 /// Says of each quotation of an execution whether it flickered, if its time is known.
 fn set_one(
     alloc: Global,
-    roster: &Roster,
-    changes: &[Change],
+    tape: &Tape<'_>,
     tracks: &[Track],
     execution: &Execution,
     answer: &mut Option<Finding>,
 ) -> Result<(), AllocError>
-    requires on { IsOn roster.now (length changes.now) execution.now }
-    requires narrow { length roster.now.parts ≤ MOST_ROWS }
-    requires parts { AreParts (sizes_of roster.now) changes.now (length changes.now) tracks.now }
-    requires count { length tracks.now ≡ MOST_ROWS * length (sizes_of roster.now).lots }
-    requires found { IsAnswered (IsStanding (sizes_of roster.now) changes.now) execution.now (Some answer.old) }
-    ensures { OnOk result (IsAnswered (IsJudged (sizes_of roster.now) changes.now) execution.now (Some answer.new)) }
+    requires on { IsOn tape.now.roster.now (length tape.now.changes.items) execution.now }
+    requires parts { ArePartsOf (sizes_in tape.now) tape.now.changes.items tracks.now }
+    requires found { IsAnswered (IsStanding (sizes_in tape.now) tape.now.changes.items) execution.now (Some answer.old) }
+    ensures { OnOk result (IsAnswered (IsJudged (sizes_in tape.now) tape.now.changes.items) execution.now (Some answer.new)) }
 {
     if execution.time.is_none() {
         return Ok(());
     }
     rows_have_one_rank_order();
     if let Some(finding) = answer {
-        finding.flickers = flickers_of(alloc, roster, changes, tracks, execution, &finding.passed)?;
+        finding.flickers = flickers_of(alloc, tape, tracks, execution, &finding.passed)?;
     }
     Ok(())
 }
@@ -135,22 +121,19 @@ fn set_one(
 /// Whether each of these quotations flickered.
 fn flickers_of(
     alloc: Global,
-    roster: &Roster,
-    changes: &[Change],
+    tape: &Tape<'_>,
     tracks: &[Track],
     execution: &Execution,
     passed: &[(Side, Row)],
 ) -> Result<Vec<bool>, AllocError>
-    requires on { IsOn roster.now (length changes.now) execution.now }
-    requires narrow { length roster.now.parts ≤ MOST_ROWS }
-    requires parts { AreParts (sizes_of roster.now) changes.now (length changes.now) tracks.now }
-    requires count { length tracks.now ≡ MOST_ROWS * length (sizes_of roster.now).lots }
-    requires own { All (λ (row : Side × Row). row.1.part < (sizes_of roster.now).parts) passed.now }
-    ensures { IfOk result (λ flickers. flickers.items ≡ map (has_flickered (sizes_of roster.now) changes.now execution.now) passed.now) }
+    requires on { IsOn tape.now.roster.now (length tape.now.changes.items) execution.now }
+    requires parts { ArePartsOf (sizes_in tape.now) tape.now.changes.items tracks.now }
+    requires own { All (λ (row : Side × Row). row.1.part < (sizes_in tape.now).parts) passed.now }
+    ensures { IfOk result (λ flickers. flickers.items ≡ map (has_flickered (sizes_in tape.now) tape.now.changes.items execution.now) passed.now) }
 {
     let mut flickers = Vec::new(alloc);
     for (side, row) in passed {
-        flickers.push(is_flickering(roster, changes, tracks, execution, *side, row))?;
+        flickers.push(is_flickering(tape, tracks, execution, *side, row))?;
     }
     Ok(flickers)
 }
@@ -158,24 +141,20 @@ fn flickers_of(
 /// Whether a quotation flickered: in some version of the second before, its participant's protected quotation on its side was
 /// at the price or inferior to it.
 fn is_flickering(
-    roster: &Roster,
-    changes: &[Change],
+    tape: &Tape<'_>,
     tracks: &[Track],
     execution: &Execution,
     side: Side,
     row: &Row,
 ) -> bool
-    requires on { IsOn roster.now (length changes.now) execution.now }
-    requires narrow { length roster.now.parts ≤ MOST_ROWS }
-    requires parts { AreParts (sizes_of roster.now) changes.now (length changes.now) tracks.now }
-    requires count { length tracks.now ≡ MOST_ROWS * length (sizes_of roster.now).lots }
-    requires own { row.now.part < (sizes_of roster.now).parts }
-    ensures { result ≡ flickers (sizes_of roster.now) changes.now execution.now.sym execution.now.millionths execution.now.second_before
+    requires on { IsOn tape.now.roster.now (length tape.now.changes.items) execution.now }
+    requires parts { ArePartsOf (sizes_in tape.now) tape.now.changes.items tracks.now }
+    requires own { row.now.part < (sizes_in tape.now).parts }
+    ensures { result ≡ flickers (sizes_in tape.now) tape.now.changes.items execution.now.sym execution.now.millionths execution.now.second_before
         execution.now.version side row.now.part }
 {
-    // The clauses alone speak of the roster and the changes.
-    let _ = roster;
-    let _ = changes;
+    // The clauses alone speak of the tape.
+    let _ = tape;
     any_version(
         &tracks[place_of(row.part, execution.sym)].marks,
         Test::Inferior(side),

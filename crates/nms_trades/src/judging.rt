@@ -1,15 +1,12 @@
 //! Executions judged on the versions that they name, by one board that is moved forward: `specs/Judged`.
-ghost use Rattle.std.specs.Prelude.{◌≡◌, ◌≢◌, ◌≤◌, ◌<◌, ◌++◌, [], ℕ, All, IfOk, OnOk, Some, length, map, slice_get, true};
+ghost use Rattle.std.specs.Prelude.{◌≡◌, ◌≢◌, ◌≤◌, ◌<◌, ◌++◌, [], ℕ, All, IfOk, OnOk, Some, length, map, slice_get};
 ghost use Rattle.std.specs.List.{filter};
-ghost use Rattle.nms_board.specs.Ranking.{ranked};
-ghost use Rattle.nms_board.specs.View.{rows_on};
 ghost use Rattle.nms_board.specs.declared.row.Row.{Row};
-ghost use Rattle.nms_quote.specs.Roster.{holds, sizes_of};
-ghost use Rattle.nms_quote.specs.declared.TheConstants.{MOST_CHANGES};
 ghost use Rattle.nms_rules.specs.Through.{is_through};
+ghost use Rattle.nms_stream.specs.Tapes.{sizes_in};
 ghost use Rattle.nms_trades.specs.Around.{own_standing};
-ghost use Rattle.nms_trades.specs.Found.{IsJudged, IsReady, IsStanding, IsWeighed};
-ghost use Rattle.nms_trades.specs.Judged.{GoesAlong, IsFoundOn, best_in, whole_price};
+ghost use Rattle.nms_trades.specs.Found.{IsJudged, IsReady, IsWeighed};
+ghost use Rattle.nms_trades.specs.Judged.{IsFoundOn, best_in, whole_price};
 ghost use Rattle.nms_trades.specs.Reading.{IsOn};
 ghost use Rattle.nms_trades.specs.Turns.{AreAnswered, HaveTurns, IsAnswered};
 ghost use Rattle.nms_trades.specs.declared.execution.Execution.{Execution};
@@ -23,94 +20,28 @@ use crate::quoted::answer_all;
 use crate::standing::Standing;
 use crate::track::Track;
 use crate::window::{bests_for, standing_in};
-use nms_board::{BoardFault, Boards, Row, View};
-use nms_quote::{Change, Roster, Side};
+use nms_board::{BoardFault, Row, View};
+use nms_quote::Side;
+use nms_stream::{Replay, Tape};
 use std::alloc::{AllocError, Global};
 
-/// Judges an execution on its version, and on those of its window.
-///
-/// The board is moved forward to that version; if it is past it, a new one is made.
+/// Judges an execution on its version, to which the board is moved, and on those of its window.
 pub(crate) fn judge(
     alloc: Global,
-    roster: &Roster,
-    changes: &[Change],
-    board: &mut Boards,
+    replay: &mut Replay<'_>,
     bests: &[Track],
     execution: &Execution,
-) -> Result<Finding, BoardFault>
-    requires held { All (λ change. holds (sizes_of roster.now) change ≡ true) changes.now }
-    requires few { length changes.now ≤ MOST_CHANGES }
-    requires on { IsOn roster.now (length changes.now) execution.now }
-    requires ready { IsReady (sizes_of roster.now) changes.now bests.now execution.now }
-    requires at { GoesAlong (sizes_of roster.now) changes.now board.old }
-    ensures at { GoesAlong (sizes_of roster.now) changes.now board.new }
-    ensures found { IfOk result (IsWeighed (sizes_of roster.now) changes.now execution.now) }
+) -> Result<Finding, AllocError>
+    requires on { IsOn replay.old.tape.now.roster.now (length replay.old.tape.now.changes.items) execution.now }
+    requires ready { IsReady (sizes_in replay.old.tape.now) replay.old.tape.now.changes.items bests.now execution.now }
+    ensures tape { replay.new.tape ≡ replay.old.tape }
+    ensures found { IfOk result (IsWeighed (sizes_in replay.old.tape.now) replay.old.tape.now.changes.items execution.now) }
 {
-    match move_to(alloc, roster, changes, board, execution.version) {
-        Ok(()) => {
-            let view = board.view(execution.sym);
-            match find_on(alloc, &view, execution.millionths) {
-                Ok(found) => {
-                    let standing = standing_in(roster, changes, bests, execution, &found);
-                    Ok(Finding { standing, ..found })
-                }
-                Err(_) => Err(BoardFault::NoMemory),
-            }
-        }
-        Err(fault) => Err(fault),
-    }
-}
-
-/// Moves a board to a version of the changes.
-fn move_to(
-    alloc: Global,
-    roster: &Roster,
-    changes: &[Change],
-    board: &mut Boards,
-    version: u64,
-) -> Result<(), BoardFault>
-    requires held { All (λ change. holds (sizes_of roster.now) change ≡ true) changes.now }
-    requires few { length changes.now ≤ MOST_CHANGES }
-    requires within { version ≤ length changes.now }
-    requires at { GoesAlong (sizes_of roster.now) changes.now board.old }
-    ensures at { GoesAlong (sizes_of roster.now) changes.now board.new }
-    ensures moved { OnOk result (board.new.applied ≡ version) }
-{
-    match reopen(alloc, roster, changes, board, version) {
-        Ok(()) => {
-            let (version, _) = changes.split_at(version as usize);
-            let (_, later) = version.split_at(board.applied() as usize);
-            board.apply_all(later);
-            Ok(())
-        }
-        Err(fault) => Err(fault),
-    }
-}
-
-/// Makes a new board if one is past a version.
-fn reopen(
-    alloc: Global,
-    roster: &Roster,
-    changes: &[Change],
-    board: &mut Boards,
-    version: u64,
-) -> Result<(), BoardFault>
-    requires { GoesAlong (sizes_of roster.now) changes.now board.old }
-    ensures at { GoesAlong (sizes_of roster.now) changes.now board.new }
-    ensures behind { OnOk result (board.new.applied ≤ version) }
-{
-    // The clauses alone speak of the changes.
-    let _ = changes;
-    if board.applied() <= version {
-        return Ok(());
-    }
-    match Boards::new(alloc, roster) {
-        Ok(opening) => {
-            *board = opening;
-            Ok(())
-        }
-        Err(fault) => Err(fault),
-    }
+    replay.move_to(execution.version);
+    let view = replay.view(execution.sym);
+    let found = find_on(alloc, &view, execution.millionths)?;
+    let standing = standing_in(replay.tape, bests, execution, &found);
+    Ok(Finding { standing, ..found })
 }
 
 /// Judges a price in 1/1,000,000 dollar on what is seen. It takes memory only if a quotation is traded through.
@@ -172,58 +103,31 @@ fn push_passed(
 /// They are judged by version, so that one board moves along the changes once and none is looked back at.
 pub fn judge_all(
     alloc: Global,
-    roster: &Roster,
-    changes: &[Change],
+    tape: &Tape<'_>,
     executions: &[Execution],
 ) -> Result<Vec<Option<Finding>>, BoardFault>
-    requires held { All (λ change. holds (sizes_of roster.now) change ≡ true) changes.now }
-    requires few { length changes.now ≤ MOST_CHANGES }
-    requires on { All (IsOn roster.now (length changes.now)) executions.now }
-    ensures found { IfOk result (λ answers. AreAnswered (IsJudged (sizes_of roster.now) changes.now) executions.now answers.items) }
+    requires { All (IsOn tape.now.roster.now (length tape.now.changes.items)) executions.now }
+    ensures found { IfOk result (λ answers. AreAnswered (IsJudged (sizes_in tape.now) tape.now.changes.items) executions.now answers.items) }
     ensures places { IfOk result (λ answers. length answers.items ≡ length executions.now) }
 {
-    match judge_quoted(alloc, roster, changes, executions) {
-        Ok(mut answers) => match judge_flickers(alloc, roster, changes, executions, &mut answers) {
-            Ok(()) => Ok(answers),
-            Err(fault) => Err(fault),
-        },
-        Err(fault) => Err(fault),
+    let mut answers = judge_standings(alloc, tape, executions)?;
+    match answer_all(alloc, tape, executions, &mut answers) {
+        Ok(()) => {
+            judge_flickers(alloc, tape, executions, &mut answers)?;
+            Ok(answers)
+        }
+        Err(_) => Err(BoardFault::NoMemory),
     }
 }
 
-/// The same, but flickering quotations are not looked for.
-fn judge_quoted(
-    alloc: Global,
-    roster: &Roster,
-    changes: &[Change],
-    executions: &[Execution],
-) -> Result<Vec<Option<Finding>>, BoardFault>
-    requires held { All (λ change. holds (sizes_of roster.now) change ≡ true) changes.now }
-    requires few { length changes.now ≤ MOST_CHANGES }
-    requires on { All (IsOn roster.now (length changes.now)) executions.now }
-    ensures found { IfOk result (λ answers. AreAnswered (IsStanding (sizes_of roster.now) changes.now) executions.now answers.items) }
-    ensures places { IfOk result (λ answers. length answers.items ≡ length executions.now) }
-{
-    match judge_standings(alloc, roster, changes, executions) {
-        Ok(mut answers) => match answer_all(alloc, roster, changes, executions, &mut answers) {
-            Ok(()) => Ok(answers),
-            Err(_) => Err(BoardFault::NoMemory),
-        },
-        Err(fault) => Err(fault),
-    }
-}
-
-/// The same, before it is asked which symbols were quoted, and which executions another shard judges.
+/// The same, before it is asked which quotations flickered, which symbols were quoted, and which executions another shard judges.
 fn judge_standings(
     alloc: Global,
-    roster: &Roster,
-    changes: &[Change],
+    tape: &Tape<'_>,
     executions: &[Execution],
 ) -> Result<Vec<Option<Finding>>, BoardFault>
-    requires held { All (λ change. holds (sizes_of roster.now) change ≡ true) changes.now }
-    requires few { length changes.now ≤ MOST_CHANGES }
-    requires on { All (IsOn roster.now (length changes.now)) executions.now }
-    ensures found { IfOk result (λ answers. AreAnswered (IsWeighed (sizes_of roster.now) changes.now) executions.now answers.items) }
+    requires { All (IsOn tape.now.roster.now (length tape.now.changes.items)) executions.now }
+    ensures found { IfOk result (λ answers. AreAnswered (IsWeighed (sizes_in tape.now) tape.now.changes.items) executions.now answers.items) }
     ensures places { IfOk result (λ answers. length answers.items ≡ length executions.now) }
 {
     let Ok(turns) = turns_of(alloc, executions) else {
@@ -232,22 +136,11 @@ fn judge_standings(
     let Ok(mut answers) = no_answers(alloc, executions.len()) else {
         return Err(BoardFault::NoMemory);
     };
-    let bests = bests_for(alloc, roster, changes, executions)?;
-    match Boards::new(alloc, roster) {
-        Ok(mut board) => {
-            judge_turns(
-                alloc,
-                roster,
-                changes,
-                &mut board,
-                &bests,
-                executions,
-                &turns,
-                &mut answers,
-            )?;
-            Ok(answers)
-        }
-        Err(fault) => Err(fault),
+    let bests = bests_for(alloc, tape, executions)?;
+    let mut replay = Replay::open(alloc, tape)?;
+    match judge_turns(alloc, &mut replay, &bests, executions, &turns, &mut answers) {
+        Ok(()) => Ok(answers),
+        Err(_) => Err(BoardFault::NoMemory),
     }
 }
 
@@ -265,28 +158,21 @@ fn no_answers(alloc: Global, count: usize) -> Result<Vec<Option<Finding>>, Alloc
 /// Judges executions in these turns, and puts each finding at the place of its execution.
 fn judge_turns(
     alloc: Global,
-    roster: &Roster,
-    changes: &[Change],
-    board: &mut Boards,
+    replay: &mut Replay<'_>,
     bests: &[Track],
     executions: &[Execution],
     turns: &[Turn],
     answers: &mut Vec<Option<Finding>>,
-) -> Result<(), BoardFault>
-    requires held { All (λ change. holds (sizes_of roster.now) change ≡ true) changes.now }
-    requires few { length changes.now ≤ MOST_CHANGES }
-    requires on { All (IsOn roster.now (length changes.now)) executions.now }
-    requires ready { All (IsReady (sizes_of roster.now) changes.now bests.now) executions.now }
-    requires at { GoesAlong (sizes_of roster.now) changes.now board.old }
+) -> Result<(), AllocError>
+    requires on { All (IsOn replay.old.tape.now.roster.now (length replay.old.tape.now.changes.items)) executions.now }
+    requires ready { All (IsReady (sizes_in replay.old.tape.now) replay.old.tape.now.changes.items bests.now) executions.now }
     requires places { length answers.old.items ≡ length executions.now }
     ensures places { length answers.new.items ≡ length executions.now }
     ensures answered { HaveTurns turns.now (length executions.now)
-        → OnOk result (AreAnswered (IsWeighed (sizes_of roster.now) changes.now) executions.now answers.new.items) }
+        → OnOk result (AreAnswered (IsWeighed (sizes_in replay.old.tape.now) replay.old.tape.now.changes.items) executions.now answers.new.items) }
 {
     for turn in turns {
-        judge_turn(
-            alloc, roster, changes, board, bests, executions, turn, answers,
-        )?;
+        judge_turn(alloc, replay, bests, executions, turn, answers)?;
     }
     Ok(())
 }
@@ -294,31 +180,26 @@ fn judge_turns(
 /// Judges the execution at a place, and puts its finding there.
 fn judge_turn(
     alloc: Global,
-    roster: &Roster,
-    changes: &[Change],
-    board: &mut Boards,
+    replay: &mut Replay<'_>,
     bests: &[Track],
     executions: &[Execution],
     turn: &Turn,
     answers: &mut Vec<Option<Finding>>,
-) -> Result<(), BoardFault>
-    requires held { All (λ change. holds (sizes_of roster.now) change ≡ true) changes.now }
-    requires few { length changes.now ≤ MOST_CHANGES }
-    requires on { All (IsOn roster.now (length changes.now)) executions.now }
-    requires ready { All (IsReady (sizes_of roster.now) changes.now bests.now) executions.now }
-    requires at { GoesAlong (sizes_of roster.now) changes.now board.old }
+) -> Result<(), AllocError>
+    requires on { All (IsOn replay.old.tape.now.roster.now (length replay.old.tape.now.changes.items)) executions.now }
+    requires ready { All (IsReady (sizes_in replay.old.tape.now) replay.old.tape.now.changes.items bests.now) executions.now }
     requires places { length answers.old.items ≡ length executions.now }
-    ensures at { GoesAlong (sizes_of roster.now) changes.now board.new }
+    ensures tape { replay.new.tape ≡ replay.old.tape }
     ensures places { length answers.new.items ≡ length executions.now }
     ensures own { (execution : Execution) → slice_get executions.now turn.now.place ≡ Some execution
-        → OnOk result (IsAnswered (IsWeighed (sizes_of roster.now) changes.now) execution (slice_get answers.new.items turn.now.place)) }
+        → OnOk result (IsAnswered (IsWeighed (sizes_in replay.old.tape.now) replay.old.tape.now.changes.items) execution (slice_get answers.new.items turn.now.place)) }
     ensures others { (other : ℕ) → other ≢ turn.now.place → slice_get answers.new.items other ≡ slice_get answers.old.items other }
 {
     let place = turn.place;
     if place >= executions.len() {
         return Ok(());
     }
-    let finding = judge(alloc, roster, changes, board, bests, &executions[place])?;
+    let finding = judge(alloc, replay, bests, &executions[place])?;
     answers[place] = Some(finding);
     Ok(())
 }

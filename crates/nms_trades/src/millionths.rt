@@ -1,5 +1,5 @@
 //! Prices of up to six decimals: `specs/FinePrice`.
-ghost use Rattle.std.specs.Prelude.{◌≡◌, ◌^◌, ◌<◌, ◌≤◌, ◌++◌, ◌∷◌, IfSome, OnOk, length};
+ghost use Rattle.std.specs.Prelude.{◌≡◌, ◌<◌, ◌≤◌, ◌++◌, ◌∷◌, IfSome, OnOk, length};
 ghost use Rattle.nms_lines.specs.Numbers.{above_zero};
 ghost use Rattle.nms_units.specs.Digits.{point_in};
 ghost use Rattle.nms_units.specs.Price.{digit_at};

@@ -40,6 +40,7 @@ pub(crate) fn write_refusal<W: Write>(
 }
 
 /// Writes that an execution traded through nothing: it is clean, or its symbol had not been quoted.
+#[tactic(auto, using(nms_show::proofs::Offered::no_part_added))]
 pub(crate) fn write_quiet<W: Write>(
     alloc: Global,
     answers: &mut W,
@@ -315,6 +316,7 @@ fn append_texts(
 }
 
 /// Writes a row that was traded through, if self-help does not take it out.
+#[tactic(auto, using(nms_show::proofs::Offered::no_part_added, nms_show::proofs::Offered::nothing_added))]
 fn write_passed<W: Write>(
     alloc: Global,
     answers: &mut W,

@@ -1,5 +1,5 @@
 //! The order in which executions are judged: by version, those of one version as they stand.
-ghost use Rattle.std.specs.Prelude.{◌≡◌, ◌<◌, ℕ, Contains, IfOk, length};
+ghost use Rattle.std.specs.Prelude.{IfOk, length};
 ghost use Rattle.nms_trades.specs.Turns.{HaveTurns};
 
 use crate::execution::Execution;

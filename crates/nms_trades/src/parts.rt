@@ -1,63 +1,33 @@
 //! The protected prices of each participant in each symbol in each version: `specs/Parts`.
-ghost use Rattle.std.specs.Prelude.{◌≡◌, ◌≢◌, ◌≤◌, ◌<◌, ℕ, ◌+◌, ◌*◌, ◌++◌, ◌∷◌, [], All, IfOk, OnOk, false, length, slice_get, true};
-ghost use Rattle.nms_board.specs.Cells.{StandsFor, after, place_of, takes};
+ghost use Rattle.std.specs.Prelude.{◌≡◌, ◌≢◌, ◌≤◌, ◌<◌, ℕ, ◌*◌, IfOk, OnOk, false, length, slice_get, true};
+ghost use Rattle.nms_board.specs.Cells.{place_of};
 ghost use Rattle.nms_board.specs.declared.TheConstants.{MOST_ROWS};
-ghost use Rattle.nms_quote.specs.Roster.{holds, sizes_of};
-ghost use Rattle.nms_quote.specs.Tape.{Tape, version};
-ghost use Rattle.nms_quote.specs.declared.TheConstants.{MOST_CHANGES};
-ghost use Rattle.nms_trades.specs.Parts.{AreParts, part_held, protected_price, touches};
+ghost use Rattle.nms_quote.specs.Roster.{holds};
+ghost use Rattle.nms_stream.specs.Tapes.{sizes_in};
+ghost use Rattle.nms_trades.specs.Parts.{ArePartsOf, part_held, protected_price, touches};
 ghost use Rattle.nms_trades.specs.Track.{AreNoted, IsNoted};
 
 use crate::track::{Limits, Track, no_tracks, note_at};
 use nms_board::{BoardFault, Boards, MOST_ROWS, Row};
-use nms_quote::{Change, Part, Roster, Side, Sym};
+use nms_quote::{Change, Part, Side, Sym};
+use nms_stream::{Replay, Tape};
 use std::alloc::{AllocError, Global};
 
 /// The protected prices of each participant in each symbol, `MOST_ROWS` places a symbol, in each version of the changes. One
 /// board moves along them once.
-pub(crate) fn parts_of(
-    alloc: Global,
-    roster: &Roster,
-    changes: &[Change],
-) -> Result<Vec<Track>, BoardFault>
-    requires held { All (λ change. holds (sizes_of roster.now) change ≡ true) changes.now }
-    requires few { length changes.now ≤ MOST_CHANGES }
-    ensures parts { IfOk result (λ tracks. AreParts (sizes_of roster.now) changes.now (length changes.now) tracks.items) }
-    ensures count { IfOk result (λ tracks. length tracks.items ≡ MOST_ROWS * length (sizes_of roster.now).lots) }
-    ensures narrow { length roster.now.parts ≤ MOST_ROWS }
+pub(crate) fn parts_of(alloc: Global, tape: &Tape<'_>) -> Result<Vec<Track>, BoardFault>
+    ensures { IfOk result (λ tracks. ArePartsOf (sizes_in tape.now) tape.now.changes.items tracks.items) }
 {
-    let mut board = match Boards::new(alloc, roster) {
-        Ok(board) => board,
-        Err(fault) => return Err(fault),
-    };
-    let Ok(mut tracks) = no_tracks(alloc, MOST_ROWS * roster.syms()) else {
+    let mut replay = Replay::open(alloc, tape)?;
+    let Ok(mut tracks) = no_tracks(alloc, MOST_ROWS * tape.roster.syms()) else {
         return Err(BoardFault::NoMemory);
     };
-    for change in changes {
-        if take_change(&mut board, change, &mut tracks).is_err() {
+    while let Some(change) = replay.step() {
+        if note_change(&replay.board, &change, &mut tracks).is_err() {
             return Err(BoardFault::NoMemory);
         }
     }
     Ok(tracks)
-}
-
-/// Moves a board over one more change, and notes the prices that it touches.
-fn take_change(
-    board: &mut Boards,
-    change: &Change,
-    tracks: &mut Vec<Track>,
-) -> Result<(), AllocError>
-    requires taken { takes board.old change.now ≡ true }
-    requires count { length tracks.old.items ≡ MOST_ROWS * length board.old.sizes.lots }
-    ensures after { board.new ≡ after board.old change.now }
-    ensures stands { (tape : Tape) → StandsFor board.old tape → StandsFor board.new (tape ++ change.now ∷ []) }
-    ensures count { OnOk result (length tracks.new.items ≡ length tracks.old.items) }
-    ensures parts { (tape : Tape) (n : ℕ) → StandsFor board.old (version n tape) → n < length tape
-        → version (n + 1) tape ≡ version n tape ++ change.now ∷ []
-        → AreParts board.old.sizes tape n tracks.old.items → OnOk result (AreParts board.old.sizes tape (n + 1) tracks.new.items) }
-{
-    board.apply(*change);
-    note_change(board, change, tracks)
 }
 
 /// Notes the prices after a change, of the participants and symbols that it touches.

@@ -1,6 +1,6 @@
 //! Which executions are of a symbol that nobody had quoted yet, and which another shard judges: `specs/Quoted`.
 ghost use Rattle.std.specs.Prelude.{◌≡◌, ◌≢◌, ℕ, All, IfOk, OnOk, Some, length, replicate, slice_get, true};
-ghost use Rattle.nms_quote.specs.Roster.{sizes_of};
+ghost use Rattle.nms_stream.specs.Tapes.{sizes_in};
 ghost use Rattle.nms_trades.specs.Found.{IsStanding, IsWeighed};
 ghost use Rattle.nms_trades.specs.Quoted.{AreFirsts, IsNotedFirst, is_quotation};
 ghost use Rattle.nms_trades.specs.Reading.{IsOn};
@@ -8,53 +8,40 @@ ghost use Rattle.nms_trades.specs.Turns.{AreAnswered, IsAnswered};
 
 use crate::execution::Execution;
 use crate::finding::Finding;
-use nms_quote::{Change, Roster};
+use nms_quote::Change;
+use nms_stream::Tape;
 use std::alloc::{AllocError, Global};
 
 /// Sets the answer of each finding. The changes are gone over once.
 pub(crate) fn answer_all(
     alloc: Global,
-    roster: &Roster,
-    changes: &[Change],
+    tape: &Tape<'_>,
     executions: &[Execution],
     findings: &mut Vec<Option<Finding>>,
 ) -> Result<(), AllocError>
-    requires on { All (IsOn roster.now (length changes.now)) executions.now }
+    requires on { All (IsOn tape.now.roster.now (length tape.now.changes.items)) executions.now }
     requires places { length findings.old.items ≡ length executions.now }
-    requires found { AreAnswered (IsWeighed (sizes_of roster.now) changes.now) executions.now findings.old.items }
+    requires found { AreAnswered (IsWeighed (sizes_in tape.now) tape.now.changes.items) executions.now findings.old.items }
     ensures places { length findings.new.items ≡ length findings.old.items }
-    ensures found { OnOk result (AreAnswered (IsStanding (sizes_of roster.now) changes.now) executions.now findings.new.items) }
+    ensures found { OnOk result (AreAnswered (IsStanding (sizes_in tape.now) tape.now.changes.items) executions.now findings.new.items) }
 {
-    let firsts = firsts_of(alloc, roster.syms(), changes)?;
+    let firsts = firsts_of(alloc, tape.roster.syms(), &tape.changes)?;
     for place in 0..executions.len() {
-        answer_one(
-            roster,
-            changes,
-            &firsts,
-            &executions[place],
-            &mut findings[place],
-        );
+        answer_one(tape, &firsts, &executions[place], &mut findings[place]);
     }
     Ok(())
 }
 
 /// Sets the answer of a finding.
-fn answer_one(
-    roster: &Roster,
-    changes: &[Change],
-    firsts: &[u64],
-    execution: &Execution,
-    answer: &mut Option<Finding>,
-)
-    requires on { IsOn roster.now (length changes.now) execution.now }
-    requires count { length firsts.now ≡ length roster.now.syms }
-    requires firsts { AreFirsts changes.now (length changes.now) firsts.now }
-    requires found { IsAnswered (IsWeighed (sizes_of roster.now) changes.now) execution.now (Some answer.old) }
-    ensures { IsAnswered (IsStanding (sizes_of roster.now) changes.now) execution.now (Some answer.new) }
+fn answer_one(tape: &Tape<'_>, firsts: &[u64], execution: &Execution, answer: &mut Option<Finding>)
+    requires on { IsOn tape.now.roster.now (length tape.now.changes.items) execution.now }
+    requires count { length firsts.now ≡ length tape.now.roster.now.syms }
+    requires firsts { AreFirsts tape.now.changes.items (length tape.now.changes.items) firsts.now }
+    requires found { IsAnswered (IsWeighed (sizes_in tape.now) tape.now.changes.items) execution.now (Some answer.old) }
+    ensures { IsAnswered (IsStanding (sizes_in tape.now) tape.now.changes.items) execution.now (Some answer.new) }
 {
-    // The clauses alone speak of the roster and the changes.
-    let _ = roster;
-    let _ = changes;
+    // The clauses alone speak of the tape.
+    let _ = tape;
     let place = usize::from(execution.sym.get());
     let unquoted = execution.first <= firsts[place];
     if let Some(finding) = answer {

@@ -1,5 +1,5 @@
 //! What a record of an execution says: `specs/Reading`.
-ghost use Rattle.std.specs.Prelude.{◌≡◌, ◌<◌, IfErr, IfOk, IfSome, length, true};
+ghost use Rattle.std.specs.Prelude.{◌≡◌, ◌<◌, IfOk, IfSome, length, true};
 ghost use Rattle.std.specs.List.{list_all};
 ghost use Rattle.csv.specs.Records.{fields_of};
 ghost use Rattle.nms_trades.specs.Reading.{IsInWindow, IsOn, IsReadFrom, deal_in, is_name, is_name_byte, part_of};

@@ -1,5 +1,6 @@
 //! The counts and sums of all executions, as tables.
 ghost use Rattle.std.specs.Prelude.{◌≡◌, ◌+◌, [], IfErr, IfOk, OnSome, false, filter, if◌then◌else◌, length, true};
+ghost use Rattle.std.specs.List.{list_all};
 ghost use Rattle.nms_show.specs.Plain.{is_own_plain, is_plain};
 ghost use Rattle.nms_show.specs.Safe.{IsSafe, own_text};
 ghost use Rattle.nms_show.specs.Written.{Writes};
@@ -20,12 +21,19 @@ use nms_units::Money;
 use std::alloc::{AllocError, Global};
 use std::io::Write;
 
+/// How many columns a table has.
+const COLUMNS: usize = 10;
+
+/// The least number of characters of each column.
+const WIDTHS: [usize; COLUMNS] = [18, 10, 8, 8, 8, 8, 8, 12, 20, 16];
+
 /// How many symbols the table has at most: those with the most shares through.
 const MOST_SYMBOLS_SHOWN: usize = 50;
 
 /// Writes the counts and sums of all executions. What is written is safe to show on a terminal.
 ///
 /// `TooLong` comes only of sums that no number holds, and leaves nothing written.
+#[tactic(auto, using(nms_show::proofs::Offered::no_part_added))]
 pub fn write_table<W: Write>(
     alloc: Global,
     roster: &Roster,
@@ -39,10 +47,7 @@ pub fn write_table<W: Write>(
     ensures refused { IfErr result (IsWritingFault layout.Table) }
     ensures unwritten { IfErr result (λ fault. is_begun fault ≡ false → W.contents answers.new ≡ W.contents answers.old) }
 {
-    let tally = match tally_of(alloc, roster, &records.executions, findings) {
-        Ok(tally) => tally,
-        Err(fault) => return Err(fault),
-    };
+    let tally = tally_of(alloc, roster, &records.executions, findings)?;
     let refused = records.refused.len() as u64;
     match print_tally(alloc, roster, &tally, refused, form, answers) {
         Ok(()) => Ok(()),
@@ -266,18 +271,19 @@ fn write_head(name: &str, out: &mut SafeText) -> Result<(), AllocError>
         return Ok(());
     }
     out.line(&[])?;
-    out.row(&[
-        column(Item::Strong(name), 18, false),
-        column(Item::Strong("executions"), 10, true),
-        column(Item::Strong("noquote"), 8, true),
-        column(Item::Strong("perhaps"), 8, true),
-        column(Item::Strong("through"), 8, true),
-        column(Item::Strong("no cause"), 8, true),
-        column(Item::Strong("rows"), 8, true),
-        column(Item::Strong("shares"), 12, true),
-        column(Item::Strong("dollars"), 20, true),
-        column(Item::Strong("worst"), 16, true),
-    ])
+    let items = [
+        Item::Strong(name),
+        Item::Strong("executions"),
+        Item::Strong("noquote"),
+        Item::Strong("perhaps"),
+        Item::Strong("through"),
+        Item::Strong("no cause"),
+        Item::Strong("rows"),
+        Item::Strong("shares"),
+        Item::Strong("dollars"),
+        Item::Strong("worst"),
+    ];
+    write_row(&items, out)
 }
 
 /// Writes a count, if there is anything in it.
@@ -334,18 +340,19 @@ fn write_count_object<'a>(
 fn write_count_row(name: Item<'_>, count: &Count, out: &mut SafeText) -> Result<(), AllocError>
     requires { is_own_plain name ≡ true }
 {
-    out.row(&[
-        column(name, 18, false),
-        column(Item::Number(count.executions), 10, true),
-        column(Item::Number(count.unquoted), 8, true),
-        column(Item::Number(count.perhaps.executions), 8, true),
-        column(Item::Number(count.through.executions), 8, true),
-        column(Item::Number(count.through.open), 8, true),
-        column(Item::Number(count.through.rows), 8, true),
-        column(Item::Number(count.through.shares), 12, true),
-        column(money_of(count.through.dollars), 20, true),
-        column(money_of(i128::from(count.through.worst)), 16, true),
-    ])
+    let items = [
+        name,
+        Item::Number(count.executions),
+        Item::Number(count.unquoted),
+        Item::Number(count.perhaps.executions),
+        Item::Number(count.through.executions),
+        Item::Number(count.through.open),
+        Item::Number(count.through.rows),
+        Item::Number(count.through.shares),
+        money_of(count.through.dollars),
+        money_of(i128::from(count.through.worst)),
+    ];
+    write_row(&items, out)
 }
 
 /// Writes the sums of those that perhaps traded through as a row below that of their count, if there are any.
@@ -353,25 +360,38 @@ fn write_perhaps_row(amount: &Amount, out: &mut SafeText) -> Result<(), AllocErr
     if amount.executions == 0 && amount.rows == 0 {
         return Ok(());
     }
-    out.row(&[
-        column(Item::Text("  of perhaps"), 18, false),
-        column(Item::Absent, 10, true),
-        column(Item::Absent, 8, true),
-        column(Item::Absent, 8, true),
-        column(Item::Absent, 8, true),
-        column(Item::Number(amount.open), 8, true),
-        column(Item::Number(amount.rows), 8, true),
-        column(Item::Number(amount.shares), 12, true),
-        column(money_of(amount.dollars), 20, true),
-        column(money_of(i128::from(amount.worst)), 16, true),
-    ])
+    let items = [
+        Item::Text("  of perhaps"),
+        Item::Absent,
+        Item::Absent,
+        Item::Absent,
+        Item::Absent,
+        Item::Number(amount.open),
+        Item::Number(amount.rows),
+        Item::Number(amount.shares),
+        money_of(amount.dollars),
+        money_of(i128::from(amount.worst)),
+    ];
+    write_row(&items, out)
 }
 
-/// A column of a row.
-fn column(item: Item<'_>, width: usize, right: bool) -> Column<'_>
-    ensures { result.item ≡ item.entry }
+/// Writes a row of a table: its name at the left end of a column, and each other item at the right end of one.
+fn write_row(items: &[Item<'_>; COLUMNS], out: &mut SafeText) -> Result<(), AllocError>
+    requires { list_all is_own_plain items.now ≡ true }
 {
-    Column { item, width, right }
+    let mut columns = [Column {
+        item: Item::Absent,
+        width: 0,
+        right: true,
+    }; COLUMNS];
+    for place in 0..COLUMNS {
+        columns[place] = Column {
+            item: items[place],
+            width: WIDTHS[place],
+            right: place > 0,
+        };
+    }
+    out.row(&columns)
 }
 
 /// Writes the counts of participants; the one after the last is off an exchange.

@@ -1,8 +1,6 @@
 //! A file of executions, judged on a file of changes.
-ghost use Rattle.std.specs.Prelude.{ℕ, ◌≡◌, ◌≤◌, ◌⊎◌, All, IfErr, IfOk, List, OnOk, Option, false, length, option_copied, true};
+ghost use Rattle.std.specs.Prelude.{◌≡◌, ◌⊎◌, All, IfErr, IfOk, OnOk, false, length, option_copied, true};
 ghost use Rattle.std.specs.Io.KnownBytes.{Appends};
-ghost use Rattle.nms_quote.specs.Roster.{holds, sizes_of};
-ghost use Rattle.nms_quote.specs.declared.TheConstants.{MOST_CHANGES};
 ghost use Rattle.nms_show.specs.Safe.{IsSafe};
 ghost use Rattle.nms_show.specs.Written.{Writes};
 ghost use Rattle.nms_trades.specs.Answers.{answers_text};
@@ -18,9 +16,9 @@ use crate::lines::write_answers;
 use crate::table::write_table;
 use crate::trades_fault::TradesFault;
 use nms_fees::Setup;
-use nms_files::read_changes;
-use nms_quote::{Change, Roster};
+use nms_quote::Roster;
 use nms_show::{Ending, Form};
+use nms_stream::Tape;
 use std::alloc::Global;
 use std::io::{Read, Write};
 
@@ -38,6 +36,7 @@ pub enum Layout {
 ///
 /// Both files are read whole; executions are at most 10,000,000. A record that is refused is written as such and counted.
 /// `Refused` if there is one, else `Done`. Any fault but `Show` leaves nothing written. Nothing is flushed.
+#[tactic(auto, using(nms_show::proofs::Offered::no_part_added))]
 pub fn judge_file<C: Read + Drop, E: Read + Drop, W: Write>(
     alloc: Global,
     setup: &Setup,
@@ -55,37 +54,45 @@ pub fn judge_file<C: Read + Drop, E: Read + Drop, W: Write>(
     ensures unwritten { IfErr result (λ fault. is_begun fault ≡ false → W.contents answers.new ≡ W.contents answers.old) }
     ensures safe { layout ≡ Layout.Table → Writes IsSafe (W.contents answers.old) (W.contents answers.new) result }
 {
-    match read_changes(alloc, setup, changes) {
-        Ok(changes) => judge_source(
-            alloc, setup, &changes, executions, timing, form, layout, answers,
-        ),
+    match Tape::read(alloc, setup, changes) {
+        Ok(tape) => judge_source(alloc, &tape, executions, timing, form, layout, answers),
         Err(fault) => Err(TradesFault::Changes(fault)),
     }
 }
 
-/// Judges each execution of a file on these changes.
+/// Judges each execution of a file on a tape.
+#[tactic(auto, using(nms_show::proofs::Offered::no_part_added))]
 fn judge_source<E: Read + Drop, W: Write>(
     alloc: Global,
-    setup: &Setup,
-    changes: &[Change],
+    tape: &Tape<'_>,
     executions: E,
     timing: Option<&Timing<'_>>,
     form: Form,
     layout: Layout,
     answers: &mut W,
 ) -> Result<Ending, TradesFault>
-    requires held { All (λ change. holds (sizes_of setup.now.roster) change ≡ true) changes.now }
-    requires few { length changes.now ≤ MOST_CHANGES }
-    ensures judged { IfOk result (IsJudgedOn setup.now.roster changes.now (E.remaining executions) form layout
+    ensures judged { IfOk result (IsJudgedOn tape.now.roster.now tape.now.changes.items (E.remaining executions) form layout
         (W.contents answers.old) (W.contents answers.new)) }
-    ensures refused { IfErr result (λ fault. IsSourceFault (option_copied timing.entry) (length changes.now) (E.remaining executions) fault
+    ensures refused { IfErr result (λ fault. IsSourceFault (option_copied timing.entry) (length tape.now.changes.items) (E.remaining executions) fault
         ⊎ (IsBoardFault fault ⊎ IsWritingFault layout fault)) }
     ensures unwritten { IfErr result (λ fault. is_begun fault ≡ false → W.contents answers.new ≡ W.contents answers.old) }
     ensures safe { layout ≡ Layout.Table → Writes IsSafe (W.contents answers.old) (W.contents answers.new) result }
 {
-    match read_timed(alloc, setup.roster(), timing, changes.len(), executions) {
-        Ok(records) => judge_records(alloc, setup, changes, &records, form, layout, answers),
-        Err(fault) => Err(fault),
+    let records = read_timed(alloc, tape.roster, timing, tape.changes.len(), executions)?;
+    match judge_all(alloc, tape, &records.executions) {
+        Ok(findings) => {
+            write_findings(
+                alloc,
+                tape.roster,
+                &records,
+                &findings,
+                form,
+                layout,
+                answers,
+            )?;
+            Ok(records.ending())
+        }
+        Err(fault) => Err(TradesFault::Board(fault)),
     }
 }
 
@@ -104,42 +111,8 @@ pub fn read_timed<R: Read + Drop>(
     ensures numbered { IfOk result (λ records. AreRecordsOf (R.remaining source) records.executions.items records.refused.items) }
     ensures refused { IfErr result (IsSourceFault (option_copied timing.entry) changes (R.remaining source)) }
 {
-    match clock_of(alloc, roster, timing, changes) {
-        Ok(clock) => read_executions(alloc, roster, &clock, source),
-        Err(fault) => Err(fault),
-    }
-}
-
-/// Judges the executions among records.
-fn judge_records<W: Write>(
-    alloc: Global,
-    setup: &Setup,
-    changes: &[Change],
-    records: &Records,
-    form: Form,
-    layout: Layout,
-    answers: &mut W,
-) -> Result<Ending, TradesFault>
-    requires held { All (λ change. holds (sizes_of setup.now.roster) change ≡ true) changes.now }
-    requires few { length changes.now ≤ MOST_CHANGES }
-    requires on { All (IsOn setup.now.roster (length changes.now)) records.now.executions.items }
-    ensures judged { (bytes : Option (List ℕ)) → AreRecordsOf bytes records.now.executions.items records.now.refused.items
-        → All IsInWindow records.now.executions.items
-        → IfOk result (IsJudgedOn setup.now.roster changes.now bytes form layout (W.contents answers.old) (W.contents answers.new)) }
-    ensures refused { IfErr result (λ fault. IsBoardFault fault ⊎ IsWritingFault layout fault) }
-    ensures unwritten { IfErr result (λ fault. is_begun fault ≡ false → W.contents answers.new ≡ W.contents answers.old) }
-    ensures safe { layout ≡ Layout.Table → Writes IsSafe (W.contents answers.old) (W.contents answers.new) result }
-{
-    let roster = setup.roster();
-    match judge_all(alloc, roster, changes, &records.executions) {
-        Ok(findings) => match write_findings(
-            alloc, roster, records, &findings, form, layout, answers,
-        ) {
-            Ok(()) => Ok(records.ending()),
-            Err(fault) => Err(fault),
-        },
-        Err(fault) => Err(TradesFault::Board(fault)),
-    }
+    let clock = clock_of(alloc, roster, timing, changes)?;
+    read_executions(alloc, roster, &clock, source)
 }
 
 /// Writes what is found of executions, which stands at their places, and which records are refused: a line or more for each, or

@@ -1,8 +1,8 @@
 //! The standing of an execution on the versions of its window: `specs/Found`.
-ghost use Rattle.std.specs.Prelude.{◌≡◌, ◌≤◌, ℕ, All, IfOk, length, true};
-ghost use Rattle.nms_quote.specs.Roster.{Sizes, holds, sizes_of};
-ghost use Rattle.nms_quote.specs.Tape.{Tape};
-ghost use Rattle.nms_quote.specs.declared.TheConstants.{MOST_CHANGES};
+ghost use Rattle.std.specs.Prelude.{◌≡◌, ◌≤◌, ℕ, All, IfOk, List, length, true};
+ghost use Rattle.nms_quote.specs.Roster.{Sizes};
+ghost use Rattle.nms_quote.specs.declared.change.Change.{Change};
+ghost use Rattle.nms_stream.specs.Tapes.{sizes_in};
 ghost use Rattle.nms_trades.specs.Around.{own_standing};
 ghost use Rattle.nms_trades.specs.Bests.{best_at};
 ghost use Rattle.nms_trades.specs.Found.{IsReady, is_alone, standing_in};
@@ -16,25 +16,22 @@ use crate::finding::Finding;
 use crate::standing::Standing;
 use crate::track::{Mark, Test, Track, any_version};
 use nms_board::{BoardFault, rows_have_one_rank_order};
-use nms_quote::{Change, Roster};
+use nms_stream::Tape;
 use std::alloc::Global;
 
 /// The best protected prices of each symbol in each version, if an execution has a window of several versions; else none.
 pub(crate) fn bests_for(
     alloc: Global,
-    roster: &Roster,
-    changes: &[Change],
+    tape: &Tape<'_>,
     executions: &[Execution],
 ) -> Result<Vec<Track>, BoardFault>
-    requires held { All (λ change. holds (sizes_of roster.now) change ≡ true) changes.now }
-    requires few { length changes.now ≤ MOST_CHANGES }
-    requires on { All (IsOn roster.now (length changes.now)) executions.now }
-    ensures { IfOk result (λ bests. All (IsReady (sizes_of roster.now) changes.now bests.items) executions.now) }
+    requires { All (IsOn tape.now.roster.now (length tape.now.changes.items)) executions.now }
+    ensures { IfOk result (λ bests. All (IsReady (sizes_in tape.now) tape.now.changes.items bests.items) executions.now) }
 {
     if are_alone(executions) {
         return Ok(Vec::new(alloc));
     }
-    bests_of(alloc, roster, changes)
+    bests_of(alloc, tape)
 }
 
 /// Whether each execution has a window of one version.
@@ -59,21 +56,19 @@ fn is_alone(execution: &Execution) -> bool
 /// The standing of an execution on the versions of its window, by what is found on its own version and by the best prices of
 /// its symbol.
 pub(crate) fn standing_in(
-    roster: &Roster,
-    changes: &[Change],
+    tape: &Tape<'_>,
     bests: &[Track],
     execution: &Execution,
     found: &Finding,
 ) -> Standing
-    requires on { IsOn roster.now (length changes.now) execution.now }
-    requires ready { IsReady (sizes_of roster.now) changes.now bests.now execution.now }
-    requires found { IsFound (sizes_of roster.now) changes.now execution.now found.now }
+    requires on { IsOn tape.now.roster.now (length tape.now.changes.items) execution.now }
+    requires ready { IsReady (sizes_in tape.now) tape.now.changes.items bests.now execution.now }
+    requires found { IsFound (sizes_in tape.now) tape.now.changes.items execution.now found.now }
     requires own { found.now.standing ≡ own_standing found.now.passed.items }
-    ensures { result ≡ standing_in (sizes_of roster.now) changes.now execution.now }
+    ensures { result ≡ standing_in (sizes_in tape.now) tape.now.changes.items execution.now }
 {
-    // The clauses alone speak of the roster and the changes.
-    let _ = roster;
-    let _ = changes;
+    // The clauses alone speak of the tape.
+    let _ = tape;
     rows_have_one_rank_order();
     if is_alone(execution) {
         return found.standing;
@@ -84,7 +79,7 @@ pub(crate) fn standing_in(
 /// The standing of an execution on the versions of its window, by the best prices of its symbol.
 fn standing_over(execution: &Execution, marks: &[Mark]) -> Standing
     requires { execution.now.millionths ≤ 9999999999999 }
-    ensures { (sizes : Sizes) (tape : Tape) (upto : ℕ) → IsTrack (best_at sizes tape execution.now.sym) upto marks.now
+    ensures { (sizes : Sizes) (tape : List Change) (upto : ℕ) → IsTrack (best_at sizes tape execution.now.sym) upto marks.now
         → execution.now.last ≤ upto → result ≡ standing_in sizes tape execution.now }
 {
     rows_have_one_rank_order();

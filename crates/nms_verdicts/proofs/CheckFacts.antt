@@ -246,14 +246,14 @@ ends_alike settings tape text sorted listed (Ok it) e made by =
 ends_alike settings tape text sorted listed (Err fault) e made by = tt
 
 -- on the changes of a file
-pub checked_on : {E : Type 0} (settings : Settings) (bytes : Option (List ℕ)) (tape listed : Tape) (text : List ℕ) (ended : Result Ending E)
-    → listed ≡ tape → IsFileTape settings bytes tape
-    → IfOk ended (λ it. (texts : List (List ℕ)) × ArePieces (strip_bom text) texts × EndsByAll settings listed texts it)
+pub checked_on : {E : Type 0} (settings own : Settings) (bytes : Option (List ℕ)) (tape : Tape) (text : List ℕ) (ended : Result Ending E)
+    → own ≡ settings → IsFileTape settings bytes tape
+    → IfOk ended (λ it. (texts : List (List ℕ)) × ArePieces (strip_bom text) texts × EndsByAll own tape texts it)
     → IfOk ended (IsChecked settings bytes text)
-checked_on settings bytes tape listed text (Ok it) e changes by =
-    let same : EndsByAll settings tape by.0 it = subst (λ (list : Tape). EndsByAll settings list by.0 it) e by.2 in
+checked_on settings own bytes tape text (Ok it) e changes by =
+    let same : EndsByAll settings tape by.0 it = subst (λ (one : Settings). EndsByAll one tape by.0 it) e by.2 in
     record { tape = tape; changes = changes; pieces = by.0; parted = by.1; by = same }
-checked_on settings bytes tape listed text (Err fault) e changes by = tt
+checked_on settings own bytes tape text (Err fault) e changes by = tt
 
 -- the counts after one piece more
 pub counts_next : (settings : Settings) (tape : Tape) (pieces : List Piece) (i : ℕ) (d : Piece) (counts after : Counts) (one : Outcome)

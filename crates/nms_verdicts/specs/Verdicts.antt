@@ -1,11 +1,9 @@
 -- What a verdict says of a plan: exactly what an audit finds on the plan's own version of the changes, for its own order, and
 -- the place of the doubt. This product's own rule.
 use Rattle.std.specs.Prelude.{◌≡◌, ◌<◌, ◌≤◌, List, length, Some, None}
-use Rattle.nms_quote.specs.Roster.{Sizes}
-use Rattle.nms_quote.specs.Tape.{Tape, version}
+use Rattle.nms_quote.specs.Tape.{Tape}
 use Rattle.nms_quote.specs.declared.certificate.Cut.{Cut}
 use Rattle.nms_quote.specs.declared.plan.Plan.{Plan}
-use Rattle.nms_board.specs.Cells.{Board, StandsFor}
 use Rattle.nms_board.specs.View.{Seen}
 use Rattle.nms_fee_book.specs.Fees.{Charges}
 use Rattle.nms_fees.specs.Settings.{Settings}
@@ -27,9 +25,3 @@ abbrev pub IsVerdict : Settings → Tape → Plan → List Cut → Verdict → T
 IsVerdict settings tape plan cuts (verdict.Beyond changes) = (length tape < plan.version) × (changes ≡ length tape)
 IsVerdict settings tape plan cuts judged =
     (plan.version ≤ length tape) × IsVerdictOn (seen_by settings tape plan) settings.fees plan cuts judged
-
--- a board of a roster's sizes after some of the changes
-pub record IsAt (sizes : Sizes) (tape : Tape) (board : Board) : Type 0 where
-  pub same : board.sizes ≡ sizes
-  pub within : board.applied ≤ length tape
-  pub stands : StandsFor board (version board.applied tape)

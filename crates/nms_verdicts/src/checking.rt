@@ -1,13 +1,10 @@
 //! The plans of a file of answers, each judged on its own version: `specs/Checked`.
-ghost use Rattle.std.specs.Prelude.{◌≡◌, ◌≤◌, ◌<◌, ◌+◌, ◌^◌, ◌-◌, ℕ, All, IfOk, List, length, true};
+ghost use Rattle.std.specs.Prelude.{◌≡◌, ◌<◌, ◌+◌, ◌^◌, ◌-◌, ℕ, IfOk, List};
 ghost use Rattle.csv.specs.Reading.{strip_bom};
-ghost use Rattle.nms_quote.specs.Roster.{holds, sizes_of};
-ghost use Rattle.nms_quote.specs.declared.TheConstants.{MOST_CHANGES};
 ghost use Rattle.nms_verdicts.specs.Begun.{texts_of};
 ghost use Rattle.nms_verdicts.specs.Checked.{AreCounts, EndsByAll, IsChecked, IsOutcome, IsOutcomeOf, counted, ending_by};
 ghost use Rattle.nms_verdicts.specs.Checked.{outcome_of};
 ghost use Rattle.nms_verdicts.specs.Pieces.{ArePieces};
-ghost use Rattle.nms_verdicts.specs.Verdicts.{IsAt};
 
 use crate::judging::judge;
 use crate::pieces::{Piece, pieces_of};
@@ -15,13 +12,12 @@ use crate::plan_telling::{PlanNumber, tell_plan};
 use crate::telling::{Heading, tell, tell_head, tell_line};
 use crate::verdict::Verdict;
 use crate::verdict_fault::VerdictFault;
-use nms_board::Boards;
 use nms_codes::Code;
 use nms_fees::Setup;
-use nms_files::read_changes;
 use nms_lines::{PlanTextFault, read_plan};
-use nms_quote::{Certificate, Change, Plan};
+use nms_quote::{Certificate, Plan};
 use nms_show::{Ending, Form, Item, ShowFault};
+use nms_stream::{Replay, Tape};
 use nms_times::Times;
 use std::alloc::Global;
 use std::io::{Read, Write};
@@ -108,12 +104,12 @@ pub fn check_answers<R: Read + Drop, W: Write>(
 ) -> Result<Ending, VerdictFault>
     ensures checked { IfOk result (IsChecked setup.now (R.remaining changes) text.now) }
 {
-    match read_changes(alloc, setup, changes) {
-        Ok(changes) => {
+    match Tape::read(alloc, setup, changes) {
+        Ok(tape) => {
             if let Some(times) = times {
-                times.check_len(changes.len())?;
+                times.check_len(tape.changes.len())?;
             }
-            check_text(alloc, setup, &changes, times, file, text, form, answers)
+            check_text(alloc, &tape, times, file, text, form, answers)
         }
         Err(fault) => Err(VerdictFault::Changes(fault)),
     }
@@ -122,69 +118,37 @@ pub fn check_answers<R: Read + Drop, W: Write>(
 /// Judges the plans of a text.
 fn check_text<W: Write>(
     alloc: Global,
-    setup: &Setup,
-    changes: &[Change],
+    tape: &Tape<'_>,
     times: Option<&Times>,
     file: &str,
     text: &[u8],
     form: Form,
     answers: &mut W,
 ) -> Result<Ending, VerdictFault>
-    requires held { All (λ change. holds (sizes_of setup.now.roster) change ≡ true) changes.now }
-    requires few { length changes.now ≤ MOST_CHANGES }
     ensures { IfOk result (λ ended. (texts : List (List ℕ)) × ArePieces (strip_bom text.now) texts
-        × EndsByAll setup.now changes.now texts ended) }
+        × EndsByAll tape.now.setup.now tape.now.changes.items texts ended) }
 {
-    match pieces_of(alloc, setup.roster(), text) {
-        Ok(pieces) => check_pieces(alloc, setup, changes, times, file, &pieces, form, answers),
+    match pieces_of(alloc, tape.roster, text) {
+        Ok(pieces) => check_pieces(alloc, tape, times, file, &pieces, form, answers),
         Err(_) => Err(VerdictFault::Show(ShowFault::NoMemory)),
     }
 }
 
-/// Judges the plans of pieces.
+/// Judges the plans of pieces, between the head of a table and a line of totals.
 fn check_pieces<W: Write>(
     alloc: Global,
-    setup: &Setup,
-    changes: &[Change],
+    tape: &Tape<'_>,
     times: Option<&Times>,
     file: &str,
     pieces: &[Piece<'_>],
     form: Form,
     answers: &mut W,
 ) -> Result<Ending, VerdictFault>
-    requires held { All (λ change. holds (sizes_of setup.now.roster) change ≡ true) changes.now }
-    requires few { length changes.now ≤ MOST_CHANGES }
-    ensures { IfOk result (EndsByAll setup.now changes.now (texts_of pieces.now)) }
+    ensures { IfOk result (EndsByAll tape.now.setup.now tape.now.changes.items (texts_of pieces.now)) }
 {
-    match Boards::new(alloc, setup.roster()) {
-        Ok(mut board) => check_on(
-            alloc, setup, changes, &mut board, times, file, pieces, form, answers,
-        ),
-        Err(fault) => Err(VerdictFault::Board(fault)),
-    }
-}
-
-/// Judges the plans of pieces, between the head of a table and a line of totals.
-fn check_on<W: Write>(
-    alloc: Global,
-    setup: &Setup,
-    changes: &[Change],
-    board: &mut Boards,
-    times: Option<&Times>,
-    file: &str,
-    pieces: &[Piece<'_>],
-    form: Form,
-    answers: &mut W,
-) -> Result<Ending, VerdictFault>
-    requires held { All (λ change. holds (sizes_of setup.now.roster) change ≡ true) changes.now }
-    requires few { length changes.now ≤ MOST_CHANGES }
-    requires at { IsAt (sizes_of setup.now.roster) changes.now board.old }
-    ensures { IfOk result (EndsByAll setup.now changes.now (texts_of pieces.now)) }
-{
+    let mut replay = Replay::open(alloc, tape)?;
     write_head(answers, form, file, headings_of(times))?;
-    let counts = check_each(
-        alloc, setup, changes, board, times, file, pieces, form, answers,
-    )?;
+    let counts = check_each(alloc, &mut replay, times, file, pieces, form, answers)?;
     write_totals(alloc, answers, form, pieces.len() as u64, counts)?;
     Ok(ending_of(counts))
 }
@@ -192,19 +156,14 @@ fn check_on<W: Write>(
 /// Judges the plans of pieces, and returns how many had each outcome.
 fn check_each<W: Write>(
     alloc: Global,
-    setup: &Setup,
-    changes: &[Change],
-    board: &mut Boards,
+    replay: &mut Replay<'_>,
     times: Option<&Times>,
     file: &str,
     pieces: &[Piece<'_>],
     form: Form,
     answers: &mut W,
 ) -> Result<Counts, VerdictFault>
-    requires held { All (λ change. holds (sizes_of setup.now.roster) change ≡ true) changes.now }
-    requires few { length changes.now ≤ MOST_CHANGES }
-    requires at { IsAt (sizes_of setup.now.roster) changes.now board.old }
-    ensures { IfOk result (AreCounts setup.now changes.now (texts_of pieces.now)) }
+    ensures { IfOk result (AreCounts replay.old.tape.now.setup.now replay.old.tape.now.changes.items (texts_of pieces.now)) }
 {
     let mut counts = Counts {
         confirmed: 0,
@@ -218,9 +177,7 @@ fn check_each<W: Write>(
             line: piece.line,
             times,
         };
-        let outcome = check_piece(
-            alloc, setup, changes, board, piece.text, number, form, answers,
-        )?;
+        let outcome = check_piece(alloc, replay, piece.text, number, form, answers)?;
         counts = counted(counts, outcome);
     }
     Ok(counts)
@@ -256,32 +213,19 @@ fn ending_of(counts: Counts) -> Ending
 /// Reads a plan, judges it, and writes its verdict.
 fn check_piece<W: Write>(
     alloc: Global,
-    setup: &Setup,
-    changes: &[Change],
-    board: &mut Boards,
+    replay: &mut Replay<'_>,
     text: &[u8],
     number: PlanNumber<'_>,
     form: Form,
     answers: &mut W,
 ) -> Result<Outcome, VerdictFault>
-    requires held { All (λ change. holds (sizes_of setup.now.roster) change ≡ true) changes.now }
-    requires few { length changes.now ≤ MOST_CHANGES }
-    requires at { IsAt (sizes_of setup.now.roster) changes.now board.old }
-    ensures at { IsAt (sizes_of setup.now.roster) changes.now board.new }
-    ensures outcome { IfOk result (IsOutcome setup.now changes.now text.now) }
+    ensures tape { replay.new.tape ≡ replay.old.tape }
+    ensures outcome { IfOk result (IsOutcome replay.old.tape.now.setup.now replay.old.tape.now.changes.items text.now) }
 {
-    match read_plan(alloc, text, setup.roster()) {
-        Ok((plan, certificate)) => check_plan(
-            alloc,
-            setup,
-            changes,
-            board,
-            &plan,
-            &certificate,
-            number,
-            form,
-            answers,
-        ),
+    match read_plan(alloc, text, replay.tape.roster) {
+        Ok((plan, certificate)) => {
+            check_plan(alloc, replay, &plan, &certificate, number, form, answers)
+        }
         Err(PlanTextFault::BadPlanText) => {
             write_unreadable(alloc, answers, form, number)?;
             Ok(Outcome::Unreadable)
@@ -293,31 +237,23 @@ fn check_piece<W: Write>(
 /// Judges a plan that was read, and writes its verdict.
 fn check_plan<W: Write>(
     alloc: Global,
-    setup: &Setup,
-    changes: &[Change],
-    board: &mut Boards,
+    replay: &mut Replay<'_>,
     plan: &Plan,
     certificate: &Certificate,
     number: PlanNumber<'_>,
     form: Form,
     answers: &mut W,
 ) -> Result<Outcome, VerdictFault>
-    requires held { All (λ change. holds (sizes_of setup.now.roster) change ≡ true) changes.now }
-    requires few { length changes.now ≤ MOST_CHANGES }
-    requires at { IsAt (sizes_of setup.now.roster) changes.now board.old }
-    ensures at { IsAt (sizes_of setup.now.roster) changes.now board.new }
-    ensures outcome { IfOk result (IsOutcomeOf setup.now changes.now plan.now certificate.now.items) }
+    ensures tape { replay.new.tape ≡ replay.old.tape }
+    ensures outcome { IfOk result (IsOutcomeOf replay.old.tape.now.setup.now replay.old.tape.now.changes.items plan.now certificate.now.items) }
 {
-    let verdict = match judge(alloc, setup, changes, board, plan, certificate) {
-        Ok(verdict) => verdict,
-        Err(fault) => return Err(VerdictFault::Board(fault)),
-    };
+    let verdict = judge(replay, plan, certificate);
     match tell_plan(
         alloc,
         answers,
         form,
         headings_of(number.times),
-        setup.roster(),
+        replay.tape.roster,
         number,
         plan,
         &verdict,

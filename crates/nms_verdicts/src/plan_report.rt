@@ -1,7 +1,5 @@
 //! A plan with its verdict, for a page: its quotations, and what is said of it.
-ghost use Rattle.std.specs.Prelude.{◌≡◌, ◌≤◌, [], All, IfOk, OnOk, length, map, true};
-ghost use Rattle.nms_quote.specs.Roster.{holds, sizes_of};
-ghost use Rattle.nms_quote.specs.declared.TheConstants.{MOST_CHANGES};
+ghost use Rattle.std.specs.Prelude.{◌≡◌, [], IfOk, OnOk, map};
 ghost use Rattle.nms_verdicts.specs.Explained.{EndsBy, ending_of};
 ghost use Rattle.nms_verdicts.specs.Listed.{AreListed, is_beyond, listed_by, listed_on};
 
@@ -11,11 +9,12 @@ use crate::rows::{Note, note_of, sent_to};
 use crate::telling::tell;
 use crate::verdict::Verdict;
 use crate::why::tell_certificate;
-use nms_board::{BoardFault, Boards, Row, View};
+use nms_board::{BoardFault, Row, View};
 use nms_fees::Setup;
-use nms_quote::{Certificate, Change, Plan};
+use nms_quote::{Certificate, Plan};
 use nms_rules::contra;
 use nms_show::{Ending, Form, Item, ShowFault};
+use nms_stream::{Replay, Tape};
 use nms_times::Times;
 use std::alloc::{AllocError, Global};
 use std::io::Write;
@@ -58,34 +57,33 @@ pub struct Said {
 /// The only fault is that no board was made, or out of memory.
 pub fn report_plan(
     alloc: Global,
-    setup: &Setup,
-    changes: &[Change],
+    tape: &Tape<'_>,
     times: Option<&Times>,
     file: &str,
     plan: &Plan,
     certificate: &Certificate,
 ) -> Result<Said, BoardFault>
-    requires held { All (λ change. holds (sizes_of setup.now.roster) change ≡ true) changes.now }
-    requires few { length changes.now ≤ MOST_CHANGES }
-    ensures ending { IfOk result (λ said. EndsBy setup.now changes.now plan.now certificate.now.items said.ending) }
-    ensures listed { IfOk result (AreListed setup.now changes.now plan.now) }
+    ensures ending { IfOk result (λ said. EndsBy tape.now.setup.now tape.now.changes.items plan.now certificate.now.items said.ending) }
+    ensures listed { IfOk result (AreListed tape.now.setup.now tape.now.changes.items plan.now) }
 {
-    let mut board = match Boards::new(alloc, setup.roster()) {
-        Ok(board) => board,
-        Err(fault) => return Err(fault),
-    };
-    let verdict = match judge(alloc, setup, changes, &mut board, plan, certificate) {
-        Ok(verdict) => verdict,
-        Err(fault) => return Err(fault),
-    };
+    let mut replay = Replay::open(alloc, tape)?;
+    let verdict = judge(&mut replay, plan, certificate);
     let number = PlanNumber {
         file,
         plan: 1,
         line: 1,
         times,
     };
-    let view = board.view(plan.order.sym);
-    match said_of(alloc, setup, &view, number, plan, certificate, &verdict) {
+    let view = replay.view(plan.order.sym);
+    match said_of(
+        alloc,
+        tape.setup,
+        &view,
+        number,
+        plan,
+        certificate,
+        &verdict,
+    ) {
         Ok(said) => Ok(said),
         // A list of bytes takes all that is written, if there is memory.
         Err(_) => Err(BoardFault::NoMemory),

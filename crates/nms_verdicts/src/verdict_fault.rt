@@ -42,6 +42,12 @@ impl VerdictFault {
     }
 }
 
+impl From<BoardFault> for VerdictFault {
+    fn from(fault: BoardFault) -> Self {
+        VerdictFault::Board(fault)
+    }
+}
+
 impl From<ShowFault> for VerdictFault {
     fn from(fault: ShowFault) -> Self {
         VerdictFault::Show(fault)

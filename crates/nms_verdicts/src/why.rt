@@ -1,7 +1,5 @@
 //! Why a plan is, or is not, the best lawful one.
-ghost use Rattle.std.specs.Prelude.{◌≡◌, ◌≤◌, All, IfOk, length, true};
-ghost use Rattle.nms_quote.specs.Roster.{holds, sizes_of};
-ghost use Rattle.nms_quote.specs.declared.TheConstants.{MOST_CHANGES};
+ghost use Rattle.std.specs.Prelude.{IfOk};
 ghost use Rattle.nms_verdicts.specs.Explained.{EndsBy, IsExplained, IsExplainedOn};
 
 use crate::cuts::tell_cuts;
@@ -12,13 +10,13 @@ use crate::rows::tell_rows;
 use crate::telling::{tell, tell_line};
 use crate::verdict::Verdict;
 use crate::verdict_fault::VerdictFault;
-use nms_board::{Boards, View};
+use nms_board::View;
 use nms_fees::Setup;
-use nms_files::read_changes;
 use nms_lines::read_plan;
-use nms_quote::{Certificate, Change, Plan};
+use nms_quote::{Certificate, Plan};
 use nms_rules::{fillable, usable_rows};
 use nms_show::{Ending, Form, Item, ShowFault};
+use nms_stream::{Replay, Tape};
 use nms_times::Times;
 use std::alloc::Global;
 use std::io::{Read, Write};
@@ -41,12 +39,12 @@ pub fn explain_why<R: Read + Drop, W: Write>(
 ) -> Result<Ending, VerdictFault>
     ensures explained { IfOk result (IsExplained setup.now (R.remaining changes) plan.now) }
 {
-    match read_changes(alloc, setup, changes) {
-        Ok(changes) => {
+    match Tape::read(alloc, setup, changes) {
+        Ok(tape) => {
             if let Some(times) = times {
-                times.check_len(changes.len())?;
+                times.check_len(tape.changes.len())?;
             }
-            explain_text(alloc, setup, &changes, times, file, plan, form, answers)
+            explain_text(alloc, &tape, times, file, plan, form, answers)
         }
         Err(fault) => Err(VerdictFault::Changes(fault)),
     }
@@ -55,30 +53,19 @@ pub fn explain_why<R: Read + Drop, W: Write>(
 /// Explains the plan of a text.
 fn explain_text<W: Write>(
     alloc: Global,
-    setup: &Setup,
-    changes: &[Change],
+    tape: &Tape<'_>,
     times: Option<&Times>,
     file: &str,
     text: &[u8],
     form: Form,
     answers: &mut W,
 ) -> Result<Ending, VerdictFault>
-    requires held { All (λ change. holds (sizes_of setup.now.roster) change ≡ true) changes.now }
-    requires few { length changes.now ≤ MOST_CHANGES }
-    ensures { IfOk result (IsExplainedOn setup.now changes.now text.now) }
+    ensures { IfOk result (IsExplainedOn tape.now.setup.now tape.now.changes.items text.now) }
 {
-    match read_plan(alloc, text, setup.roster()) {
-        Ok((plan, certificate)) => explain_plan(
-            alloc,
-            setup,
-            changes,
-            times,
-            file,
-            &plan,
-            &certificate,
-            form,
-            answers,
-        ),
+    match read_plan(alloc, text, tape.roster) {
+        Ok((plan, certificate)) => {
+            explain_plan(alloc, tape, times, file, &plan, &certificate, form, answers)
+        }
         Err(fault) => Err(VerdictFault::Plan(fault)),
     }
 }
@@ -86,8 +73,7 @@ fn explain_text<W: Write>(
 /// Explains a plan.
 fn explain_plan<W: Write>(
     alloc: Global,
-    setup: &Setup,
-    changes: &[Change],
+    tape: &Tape<'_>,
     times: Option<&Times>,
     file: &str,
     plan: &Plan,
@@ -95,22 +81,14 @@ fn explain_plan<W: Write>(
     form: Form,
     answers: &mut W,
 ) -> Result<Ending, VerdictFault>
-    requires held { All (λ change. holds (sizes_of setup.now.roster) change ≡ true) changes.now }
-    requires few { length changes.now ≤ MOST_CHANGES }
-    ensures { IfOk result (EndsBy setup.now changes.now plan.now certificate.now.items) }
+    ensures { IfOk result (EndsBy tape.now.setup.now tape.now.changes.items plan.now certificate.now.items) }
 {
-    let mut board = match Boards::new(alloc, setup.roster()) {
-        Ok(board) => board,
-        Err(fault) => return Err(VerdictFault::Board(fault)),
-    };
-    let verdict = match judge(alloc, setup, changes, &mut board, plan, certificate) {
-        Ok(verdict) => verdict,
-        Err(fault) => return Err(VerdictFault::Board(fault)),
-    };
-    let view = board.view(plan.order.sym);
+    let mut replay = Replay::open(alloc, tape)?;
+    let verdict = judge(&mut replay, plan, certificate);
+    let view = replay.view(plan.order.sym);
     let told = tell_judged(
         alloc,
-        setup,
+        tape.setup,
         &view,
         times,
         file,

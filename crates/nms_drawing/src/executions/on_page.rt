@@ -9,9 +9,9 @@ use super::page_fault::PageFault;
 use crate::drawing::{About, Frame, draw_day};
 use crate::drawing_fault::DrawingFault;
 use nms_fees::Setup;
-use nms_files::read_changes;
 use nms_quote::Sym;
 use nms_show::Ending;
+use nms_stream::Tape;
 use nms_trades::Timing;
 use std::alloc::Global;
 use std::io::{Read, Write};
@@ -42,18 +42,17 @@ pub fn draw_executions<C: Read + Drop, E: Read + Drop, W: Write>(
         frame.now.from frame.now.to frame.now.own (option_copied frame.now.times) (option_copied plan.entry)) }
     ensures unwritten { IfErr result (λ fault. is_picture_begun fault ≡ false → W.contents answers.new ≡ W.contents answers.old) }
 {
-    let changes = match read_changes(alloc, setup, changes) {
-        Ok(changes) => changes,
+    let tape = match Tape::read(alloc, setup, changes) {
+        Ok(tape) => tape,
         Err(fault) => return Err(PageFault::Drawing(DrawingFault::Changes(fault))),
     };
-    let judged = match judge_source(alloc, setup, &changes, timing, executions) {
+    let judged = match judge_source(alloc, &tape, timing, executions) {
         Ok(judged) => judged,
         Err(fault) => return Err(PageFault::Trades(fault)),
     };
     let drawn = draw_day(
         alloc,
-        setup,
-        &changes,
+        &tape,
         frame,
         sym,
         plan,

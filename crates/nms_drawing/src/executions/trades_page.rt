@@ -1,8 +1,6 @@
 //! The page of a file of executions: the days of their symbols. How the call ends: `specs/Pages`.
-ghost use Rattle.std.specs.Prelude.{◌≡◌, ◌<◌, ◌≤◌, All, IfErr, IfOk, None, OnOk, false, length, option_copied, true};
+ghost use Rattle.std.specs.Prelude.{◌≡◌, ◌<◌, All, IfErr, IfOk, None, OnOk, false, length, option_copied, true};
 ghost use Rattle.std.specs.Io.KnownBytes.{Appends};
-ghost use Rattle.nms_quote.specs.Roster.{holds, sizes_of};
-ghost use Rattle.nms_quote.specs.declared.TheConstants.{MOST_CHANGES};
 ghost use Rattle.nms_trades.specs.Answers.{answers_text};
 ghost use Rattle.nms_trades.specs.Files.{IsJudgedFile, is_csv};
 ghost use Rattle.nms_drawing.specs.Drawn.{IsTradesFilePage, IsTradesPage, times_in};
@@ -15,9 +13,9 @@ use crate::drawing_fault::DrawingFault;
 use crate::page::{Content, write_content};
 use crate::rows::Window;
 use nms_fees::Setup;
-use nms_files::read_changes;
-use nms_quote::{Change, Roster, Sym};
+use nms_quote::Sym;
 use nms_show::{Ending, Form};
+use nms_stream::Tape;
 use nms_times::Times;
 use nms_trades::{Layout, Timing, write_findings};
 use std::alloc::Global;
@@ -58,24 +56,15 @@ pub fn write_page<C: Read + Drop, E: Read + Drop, W: Write, P: Write>(
     ensures unwritten { IfErr result (λ fault. is_begun fault ≡ false
         → (W.contents answers.new ≡ W.contents answers.old) × (P.contents page.new ≡ P.contents page.old)) }
 {
-    let changes = match read_changes(alloc, setup, changes) {
-        Ok(changes) => changes,
+    let tape = match Tape::read(alloc, setup, changes) {
+        Ok(tape) => tape,
         Err(fault) => return Err(PageFault::Drawing(DrawingFault::Changes(fault))),
     };
-    let judged = match judge_source(alloc, setup, &changes, timing, executions) {
+    let judged = match judge_source(alloc, &tape, timing, executions) {
         Ok(judged) => judged,
         Err(fault) => return Err(PageFault::Trades(fault)),
     };
-    match write_both(
-        alloc,
-        setup.roster(),
-        &changes,
-        &judged,
-        timing,
-        asked,
-        page,
-        answers,
-    ) {
+    match write_both(alloc, &tape, &judged, timing, asked, page, answers) {
         Ok(()) => Ok(judged.records.ending()),
         Err(fault) => Err(fault),
     }
@@ -84,34 +73,31 @@ pub fn write_page<C: Read + Drop, E: Read + Drop, W: Write, P: Write>(
 /// Writes the answers, and then the page.
 fn write_both<W: Write, P: Write>(
     alloc: Global,
-    roster: &Roster,
-    changes: &[Change],
+    tape: &Tape<'_>,
     judged: &Judged,
     timing: Option<&Timing<'_>>,
     asked: &Asked<'_>,
     page: &mut P,
     answers: &mut W,
 ) -> Result<(), PageFault>
-    requires held { All (λ change. holds (sizes_of roster.now) change ≡ true) changes.now }
-    requires few { length changes.now ≤ MOST_CHANGES }
     requires places { length judged.now.findings.items ≡ length judged.now.records.executions.items }
-    requires symbols { All (λ execution. execution.sym < length roster.now.syms) judged.now.records.executions.items }
-    ensures page { OnOk result (IsTradesPage roster.now changes.now (option_copied timing.entry) asked.now judged.now.records.executions.items judged.now.findings.items
+    requires symbols { All (λ execution. execution.sym < length tape.now.roster.now.syms) judged.now.records.executions.items }
+    ensures page { OnOk result (IsTradesPage tape.now.roster.now tape.now.changes.items (option_copied timing.entry) asked.now judged.now.records.executions.items judged.now.findings.items
         (P.contents page.old) (P.contents page.new)) }
     ensures written { is_csv asked.now.layout asked.now.form ≡ true → OnOk result (Appends (W.contents answers.old) (W.contents answers.new)
-        (answers_text roster.now judged.now.records.executions.items judged.now.records.refused.items judged.now.findings.items)) }
+        (answers_text tape.now.roster.now judged.now.records.executions.items judged.now.records.refused.items judged.now.findings.items)) }
     ensures refused { IfErr result IsOutputFault }
 {
     match write_findings(
         alloc,
-        roster,
+        tape.roster,
         &judged.records,
         &judged.findings,
         asked.form,
         asked.layout,
         answers,
     ) {
-        Ok(()) => write_judged(alloc, roster, changes, judged, timing, asked, page),
+        Ok(()) => write_judged(alloc, tape, judged, timing, asked, page),
         Err(fault) => Err(PageFault::Trades(fault)),
     }
 }
@@ -119,22 +105,19 @@ fn write_both<W: Write, P: Write>(
 /// Writes the page.
 fn write_judged<P: Write>(
     alloc: Global,
-    roster: &Roster,
-    changes: &[Change],
+    tape: &Tape<'_>,
     judged: &Judged,
     timing: Option<&Timing<'_>>,
     asked: &Asked<'_>,
     page: &mut P,
 ) -> Result<(), PageFault>
-    requires held { All (λ change. holds (sizes_of roster.now) change ≡ true) changes.now }
-    requires few { length changes.now ≤ MOST_CHANGES }
     requires places { length judged.now.findings.items ≡ length judged.now.records.executions.items }
-    requires symbols { All (λ execution. execution.sym < length roster.now.syms) judged.now.records.executions.items }
-    ensures page { OnOk result (IsTradesPage roster.now changes.now (option_copied timing.entry) asked.now judged.now.records.executions.items judged.now.findings.items
+    requires symbols { All (λ execution. execution.sym < length tape.now.roster.now.syms) judged.now.records.executions.items }
+    ensures page { OnOk result (IsTradesPage tape.now.roster.now tape.now.changes.items (option_copied timing.entry) asked.now judged.now.records.executions.items judged.now.findings.items
         (P.contents page.old) (P.contents page.new)) }
     ensures refused { IfErr result IsOutputFault }
 {
-    let Ok(traded) = traded_in(alloc, roster, &judged.records.executions) else {
+    let Ok(traded) = traded_in(alloc, tape.roster, &judged.records.executions) else {
         return Err(PageFault::Drawing(DrawingFault::NoMemory));
     };
     let window = Window {
@@ -142,7 +125,7 @@ fn write_judged<P: Write>(
         times: times_of(timing),
         opening: 0,
         from: 0,
-        to: changes.len() as u64,
+        to: tape.changes.len() as u64,
         since: 0,
         until: u64::MAX,
         timed: timing.is_some(),
@@ -150,8 +133,7 @@ fn write_judged<P: Write>(
     };
     let aside = [asides_of(Some(judged))];
     let content = content_of(
-        &*roster,
-        &*changes,
+        &*tape,
         &*judged,
         &window,
         &traded.symbols,
@@ -176,16 +158,14 @@ fn times_of<'a>(timing: Option<&Timing<'a>>) -> Option<&'a Times>
 
 /// What the page is made of.
 fn content_of<'x>(
-    roster: &'x Roster,
-    changes: &'x [Change],
+    tape: &'x Tape<'x>,
     judged: &'x Judged,
     window: &'x Window<'x>,
     symbols: &'x [Sym],
     about: &'x [&'x [u8]],
     aside: &'x [[u64; 2]],
 ) -> Content<'x>
-    ensures roster { result.roster.now ≡ roster.now }
-    ensures changes { result.changes.now ≡ changes.now }
+    ensures tape { result.tape.now ≡ tape.now }
     ensures window { result.window.now ≡ window.now }
     ensures executions { result.executions.now ≡ judged.now.records.executions.items }
     ensures findings { result.findings.now ≡ judged.now.findings.items }
@@ -193,8 +173,7 @@ fn content_of<'x>(
     ensures plan { result.plan ≡ None }
 {
     Content {
-        roster,
-        changes,
+        tape,
         window,
         symbols,
         executions: &judged.records.executions,

@@ -13,8 +13,8 @@ use Rattle.nms_compare.proofs.comparing.compare_rows.Goals as goal
 pub loop-done-init : goal.loop-done-init
 loop-done-init g c = (
   ap rows_in c.none-counts.ensures,
-  c.in_ok-walk.ensures.sizes,
-  c.in_ok-walk.ensures.walks,
+  c.in_ok-walk.ensures.tape,
+  c.in_ok-walk.ensures.keys,
   λ config bytes seen reads. (
     [],
     subst (λ (rows : List Record). RowsFrom {R = RowSource g.row.R.Denot} config (unread g.R.Read.remaining) c.args.reader.now bytes rows)
@@ -35,8 +35,8 @@ returns-then-not-branch g c = record {
 pub loop-done-preserved : goal.loop-done-preserved
 loop-done-preserved g c = (
   c.count.ensures.rows ∙ ap (λ n. n + 1) c.loop-done.invariant.0,
-  c.in_ok-found.ensures.sizes,
-  c.in_ok-found.ensures.walks,
+  rw c.in_ok-found.ensures.tape c.loop-done.invariant.1,
+  rw c.in_ok-found.ensures.keys c.loop-done.invariant.2,
   λ config bytes seen reads.
       let had = c.loop-done.invariant.3 config bytes seen reads in
       let is_found : c.in_ok-next_row.field-0 ≡ true = cc in
@@ -45,8 +45,9 @@ loop-done-preserved g c = (
         had.0 ++ row ∷ [],
         subst (λ (rows : List Record). RowsFrom {R = RowSource g.row.R.Denot} config (unread g.R.Read.remaining) c.next_row.new.reader bytes rows)
             (append_assoc seen had.0 (row ∷ [])) found,
-        counts_more c.args.vendor.now c.args.roster.now c.args.changes.now c.args.keys.now had.0 row c.loop-done.counts
-            c.in_ok-found.found c.count.new.self had.2 c.in_ok-found.ensures.found c.count.ensures.counted,
+        counts_more c.args.vendor.now c.args.keyed.now.tape.now.roster.now c.args.keyed.now.tape.now.changes.items
+            c.args.keyed.now.keys.items had.0 row c.loop-done.counts c.in_ok-found.found c.count.new.self had.2
+            (rw (c.loop-done.invariant.1, c.loop-done.invariant.2) at c.in_ok-found.ensures.found) c.count.ensures.counted,
         omega (arith, c.count.ensures.rows, had.3, length-append had.0 (row ∷ [])),
       ),
 )

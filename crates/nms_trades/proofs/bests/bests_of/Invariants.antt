@@ -1,14 +1,15 @@
--- `bests_of`: the board goes along the changes, and each symbol has its track so far.
-use Rattle.std.proofs.Common.{◌≡◌, length}
-use Rattle.nms_quote.specs.Roster.{sizes_of}
+-- `bests_of`: the tape stays, and each symbol has its track so far.
+use Rattle.std.proofs.Common.{◌≡◌, ◌-◌, length}
+use Rattle.nms_stream.specs.Tapes.{sizes_in}
 use Rattle.nms_trades.specs.Bests.{AreBests}
-use Rattle.nms_trades.specs.Judged.{GoesAlong}
 use Rattle.nms_trades.proofs.bests.bests_of.Given as goal
 
 abbrev pub invariant-loop-change : goal.invariant-loop-change
 invariant-loop-change l = record {
-  at : GoesAlong (sizes_of l.roster) l.changes l.board;
-  moved : l.board.applied ≡ l.change-index;
-  count : length l.bests.items ≡ length (sizes_of l.roster).lots;
-  bests : AreBests (sizes_of l.roster) l.changes l.change-index l.bests.items;
+  tape : l.replay.tape.now ≡ l.fn.tape;
+  count : length l.bests.items ≡ length (sizes_in l.fn.tape).lots;
+  bests : AreBests (sizes_in l.fn.tape) l.fn.tape.changes.items l.replay.board.applied l.bests.items;
 }
+
+abbrev pub decreases-loop-change : goal.decreases-loop-change
+decreases-loop-change l = length l.fn.tape.changes.items - l.replay.board.applied

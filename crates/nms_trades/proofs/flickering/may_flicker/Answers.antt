@@ -1,5 +1,5 @@
 -- `may_flicker`: the execution at hand is steady, as those before it are.
-use Rattle.std.proofs.Common.{◌≡◌, ◌<◌, Some, true, ap, arith, inl, inr, slice_get, subst, ◌∙◌}
+use Rattle.std.proofs.Common.{◌≡◌, Some, true, ap, arith, inl, inr, slice_get, subst, ◌∙◌}
 use Rattle.std.proofs.lemmas.Bool.{cases_lt}
 use Rattle.std.proofs.lemmas.Option.{get_or_from_slice_get, slice_get_within}
 use Rattle.nms_trades.specs.Found.{IsSteady}

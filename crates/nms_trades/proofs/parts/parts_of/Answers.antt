@@ -1,60 +1,62 @@
--- `parts_of`: one change more, by what `take_change` promises.
-use Rattle.std.proofs.Common.{◌≡◌, ◌+◌, ◌*◌, ◌∙◌, ap, arith, false, length, subst, sym}
+-- `parts_of`: one change more, by `parts_step`.
+use Rattle.std.proofs.Common.{ℕ, ◌≡◌, ◌*◌, ◌∙◌, ap, arith, false, length, subst, sym}
 use Rattle.std.specs.Prelude.{is_err}
 use Rattle.std.proofs.lemmas.List.{length-map}
-use Rattle.nms_quote.specs.Roster.{Sizes, sizes_of}
-use Rattle.nms_quote.specs.Tape.{version}
-use Rattle.nms_board.specs.Cells.{Board, StandsFor}
+use Rattle.nms_quote.specs.Roster.{Sizes}
 use Rattle.nms_board.specs.declared.TheConstants.{MOST_ROWS}
+use Rattle.nms_stream.specs.Tapes.{sizes_in}
 use Rattle.nms_trades.specs.Parts.{AreParts}
-use Rattle.nms_trades.proofs.AlongFacts.{along_first, along_more, along_takes, ok_then, one_more}
+use Rattle.nms_trades.proofs.BestSteps.{parts_step}
+use Rattle.nms_trades.proofs.OkFacts.{ok_then}
 use Rattle.nms_trades.proofs.PartFacts.{parts_first}
 use Rattle.nms_trades.proofs.parts.parts_of.Goals as goal
 
 pub loop-change-init : goal.loop-change-init
 loop-change-init c =
-    let sizes = sizes_of c.args.roster.now in
-    let syms : c.syms.result ≡ length sizes.lots =
-    c.syms.ensures.count ∙ sym (length-map c.args.roster.now.syms (λ entry. entry.1)) in
-    let count : length c.in-Ok-no_tracks.tracks.items ≡ MOST_ROWS * length sizes.lots =
-    c.in-Ok-no_tracks.ensures.count ∙ ap (λ n. MOST_ROWS * n) syms in
+    let tape = c.args.tape.now in
+    let tracks = c.in-Ok.tracks.items in
+    let syms : c.syms.result ≡ length (sizes_in tape).lots =
+    c.syms.ensures.count ∙ sym (length-map tape.roster.now.syms (λ entry. entry.1)) in
+    let count : length tracks ≡ MOST_ROWS * length (sizes_in tape).lots = c.in-Ok.ensures.count ∙ ap (λ n. MOST_ROWS * n) syms in
     record {
-      at = along_first sizes c.args.changes.now c.in-Ok.board c.in-Ok.ensures.opening c.in-Ok.ensures.stands;
-      moved = ap (λ (b : Board). b.applied) c.in-Ok.ensures.opening;
+      tape = c.in_ok-replay.ensures.tape;
       count = count;
-      parts = parts_first sizes c.args.changes.now c.in-Ok-no_tracks.tracks.items
-          (λ place below. c.in-Ok-no_tracks.ensures.nothing place
-          (omega (arith, below, count, c.in-Ok-no_tracks.ensures.count))) c.in-Ok.ensures.narrow;
+      parts = subst (λ (n : ℕ). AreParts (sizes_in tape) tape.changes.items n tracks) (sym c.in_ok-replay.ensures.first)
+          (parts_first (sizes_in tape) tape.changes.items tracks
+          (λ place below. c.in-Ok.ensures.nothing place (omega (arith, below, count, c.in-Ok.ensures.count)))
+          c.in_ok-replay.ensures.narrow);
     }
 
 pub loop-change-preserved : goal.loop-change-preserved
 loop-change-preserved c =
-    let sizes = sizes_of c.args.roster.now in
-    let k = c.loop-change.change-index in
-    let along = c.loop-change.invariant.at in
-    let fine : is_err c.take_change.result ≡ false = sym c.is_err.ensures.value ∙ c.if-is_err.false in
-    let more = one_more c.args.changes.now k c.change-item.result c.loop-change-test.true c.change-item.is in
+    let had = c.loop-change.invariant in
+    let step = rw had.tape at c.in-Some.ensures.step in
+    let fine : is_err c.note_change.result ≡ false = sym c.is_err.ensures.value ∙ c.if-is_err.false in
     record {
-      at = along_more sizes c.args.changes.now c.loop-change.board c.take_change.new.board c.change-item.result k along
-          c.loop-change.invariant.moved c.loop-change-test.true c.change-item.is c.take_change.ensures.after c.take_change.ensures.stands;
-      moved = ap (λ (b : Board). b.applied) c.take_change.ensures.after ∙ ap (λ n. n + 1) c.loop-change.invariant.moved;
-      count = ok_then c.take_change.result _ fine c.take_change.ensures.count ∙ c.loop-change.invariant.count;
-      parts = subst (λ (s : Sizes). AreParts s c.args.changes.now (k + 1) c.take_change.new.tracks.items) along.same
-          (ok_then c.take_change.result _ fine (c.take_change.ensures.parts c.args.changes.now k
-          (subst (λ n. StandsFor c.loop-change.board (version n c.args.changes.now)) c.loop-change.invariant.moved along.stands)
-          c.loop-change-test.true more
-          (subst (λ (s : Sizes). AreParts s c.args.changes.now k c.loop-change.tracks.items) (sym along.same)
-          c.loop-change.invariant.parts)));
+      tape = rw c.step.ensures.tape had.tape;
+      count = ok_then c.note_change.result _ fine c.note_change.ensures.count ∙ had.count;
+      parts = ok_then c.note_change.result _ fine
+          (parts_step c.note_change.result (sizes_in c.args.tape.now) c.args.tape.now.changes.items c.loop-change.replay.board
+          c.step.new.self.board c.in-Some.change c.loop-change.tracks.items c.note_change.new.tracks.items step
+          (rw step.at.same at c.note_change.ensures.touched) (rw step.at.same at c.note_change.ensures.others) had.parts);
     }
 
-pub take_change-requires-clause-count : goal.take_change-requires-clause-count
-take_change-requires-clause-count c =
-    c.loop-change.invariant.count ∙ ap (λ (s : Sizes). MOST_ROWS * length s.lots) (sym c.loop-change.invariant.at.same)
+pub loop-change-smaller : goal.loop-change-smaller
+loop-change-smaller c =
+    let step = rw c.loop-change.invariant.tape at c.in-Some.ensures.step in
+    omega (arith, step.below, step.more)
 
-pub returns-clause-count : goal.returns-clause-count
-returns-clause-count c = c.loop-change.invariant.count
+pub note_change-requires-clause-count : goal.note_change-requires-clause-count
+note_change-requires-clause-count c =
+    let step = rw c.loop-change.invariant.tape at c.in-Some.ensures.step in
+    c.loop-change.invariant.count ∙ ap (λ (z : Sizes). MOST_ROWS * length z.lots) (sym step.at.same)
 
-pub take_change-requires-clause-taken : goal.take_change-requires-clause-taken
-take_change-requires-clause-taken c =
-    along_takes (sizes_of c.args.roster.now) c.args.changes.now c.loop-change.board c.change-item.result c.loop-change.change-index
-    c.loop-change.invariant.at c.loop-change.invariant.moved c.requires.held c.requires.few c.loop-change-test.true c.change-item.is
+pub returns : goal.returns
+returns c =
+    let tape = c.args.tape.now in
+    record {
+      narrow = c.in_ok-replay.ensures.narrow;
+      count = c.loop-change.invariant.count;
+      parts = subst (λ (n : ℕ). AreParts (sizes_in tape) tape.changes.items n c.loop-change.tracks.items)
+          (rw c.loop-change.invariant.tape at c.in_default-step.ensures.step) c.loop-change.invariant.parts;
+    }

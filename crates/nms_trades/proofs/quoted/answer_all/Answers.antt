@@ -1,7 +1,7 @@
 -- `answer_all`: one execution more has its answer, by `answered_one`; at the end all have, by `answered_end`.
 use Rattle.std.proofs.Common.{◌∙◌, arith}
 use Rattle.std.proofs.lemmas.List.{length-set}
-use Rattle.nms_quote.specs.Roster.{sizes_of}
+use Rattle.nms_stream.specs.Tapes.{sizes_in}
 use Rattle.nms_trades.specs.Found.{IsStanding}
 use Rattle.nms_trades.proofs.BelowFacts.{answered_end, answered_one, rest_one}
 use Rattle.nms_trades.proofs.quoted.answer_all.Goals as goal
@@ -9,7 +9,7 @@ use Rattle.nms_trades.proofs.quoted.answer_all.Goals as goal
 pub loop-place-preserved : goal.loop-place-preserved
 loop-place-preserved c = record {
   places = length-set c.loop-place.findings.items c.loop-place.place c.answer_one.new.answer ∙ c.loop-place.invariant.places;
-  done = answered_one (IsStanding (sizes_of c.args.roster.now) c.args.changes.now) c.args.executions.now c.loop-place.findings.items
+  done = answered_one (IsStanding (sizes_in c.args.tape.now) c.args.tape.now.changes.items) c.args.executions.now c.loop-place.findings.items
       c.loop-place.place c.index-executions-place.result c.answer_one.new.answer
       (omega (arith, c.loop-place-test.true, c.loop-place.invariant.places, c.requires.places)) c.index-executions-place.is
       c.answer_one.ensures c.loop-place.invariant.done;
@@ -19,5 +19,5 @@ loop-place-preserved c = record {
 
 pub returns-clause-found : goal.returns-clause-found
 returns-clause-found c =
-    answered_end (IsStanding (sizes_of c.args.roster.now) c.args.changes.now) c.args.executions.now c.loop-place.findings.items
+    answered_end (IsStanding (sizes_in c.args.tape.now) c.args.tape.now.changes.items) c.args.executions.now c.loop-place.findings.items
     c.loop-place.place (omega (arith, c.loop-place-test.false)) c.loop-place.invariant.done

@@ -1,7 +1,7 @@
 -- `standing_in`: with a window of one version by `own_in`, else by the track of the symbol.
 use Rattle.std.proofs.Common.{◌∙◌, ap, get_or, length, subst, sym}
-use Rattle.nms_quote.specs.Roster.{sizes_of}
 use Rattle.std.proofs.lemmas.Option.{slice_get-get_or}
+use Rattle.nms_stream.specs.Tapes.{sizes_in}
 use Rattle.nms_trades.specs.Bests.{best_at}
 use Rattle.nms_trades.specs.Track.{IsTrack}
 use Rattle.nms_trades.proofs.OwnFacts.{own_in}
@@ -10,15 +10,15 @@ use Rattle.nms_trades.proofs.window.standing_in.Goals as goal
 
 pub returns-then-is_alone : goal.returns-then-is_alone
 returns-then-is_alone c =
-    let sizes = sizes_of c.args.roster.now in
+    let sizes = sizes_in c.args.tape.now in
     c.requires.own
-    ∙ own_in sizes c.args.changes.now c.args.execution.now c.args.found.now.passed.items (sym c.is_alone.ensures ∙ c.if-is_alone.true)
+    ∙ own_in sizes c.args.tape.now.changes.items c.args.execution.now c.args.found.now.passed.items (sym c.is_alone.ensures ∙ c.if-is_alone.true)
     (λ s tape n side. c.rows_have_one_rank_order.ensures.in_order s tape n side) c.requires.found.passed
 
 pub returns : goal.returns
 returns c =
-    let sizes = sizes_of c.args.roster.now in
-    let tape = c.args.changes.now in
+    let sizes = sizes_in c.args.tape.now in
+    let tape = c.args.tape.now.changes.items in
     let symbol = c.args.execution.now.sym in
     let all = best_at sizes tape symbol in
     let has = c.requires.ready (sym c.is_alone.ensures ∙ c.if-is_alone.false) in

@@ -2,7 +2,8 @@
 use Rattle.nms_verdicts.proofs.CheckFacts.{outcome_by}
 use Rattle.nms_verdicts.proofs.checking.check_plan.Goals as goal
 
-pub returns-in-Ok-tell_plan-clause-outcome : goal.returns-in-Ok-tell_plan-clause-outcome
-returns-in-Ok-tell_plan-clause-outcome g c =
-    outcome_by c.args.setup.now c.args.changes.now c.args.plan.now c.args.certificate.now.items c.in-Ok.verdict c.outcome_of.result
-    c.outcome_of.ensures c.in-Ok.ensures.judged
+pub returns-in-Ok-clause-outcome : goal.returns-in-Ok-clause-outcome
+returns-in-Ok-clause-outcome g c =
+    let tape = c.args.replay.now.tape.now in
+    outcome_by tape.setup.now tape.changes.items c.args.plan.now c.args.certificate.now.items c.judge-verdict.result c.outcome_of.result
+    c.outcome_of.ensures c.judge-verdict.ensures.judged

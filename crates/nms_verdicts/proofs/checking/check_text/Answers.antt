@@ -9,6 +9,7 @@ use Rattle.nms_verdicts.proofs.checking.check_text.Goals as goal
 
 pub returns-in-Ok : goal.returns-in-Ok
 returns-in-Ok g c =
-    ends_alike c.args.setup.now c.args.changes.now (strip_bom c.args.text.now) (texts_of c.in-Ok.pieces.items)
+    let tape = c.args.tape.now in
+    ends_alike tape.setup.now tape.changes.items (strip_bom c.args.text.now) (texts_of c.in-Ok.pieces.items)
     (texts_of c.deref.result.now) c.check_pieces.result (ap (λ (list : List Piece). texts_of list) c.deref.ensures.value)
     c.in-Ok.ensures.parted c.check_pieces.ensures

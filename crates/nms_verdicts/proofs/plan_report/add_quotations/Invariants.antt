@@ -1,5 +1,5 @@
 -- `add_quotations`: the quotations so far and those that are left are all of them.
-use Rattle.std.proofs.Common.{◌≡◌, ◌++◌, ◌-◌, length, map}
+use Rattle.std.proofs.Common.{◌≡◌, ◌++◌, ◌-◌, map}
 use Rattle.std.specs.List.{filter_map, range_with_len}
 use Rattle.nms_board.specs.Ranking.{ranked_at}
 use Rattle.nms_rules.specs.Usable.{contra, contra_rows}

@@ -2,6 +2,8 @@
 use Rattle.nms_verdicts.proofs.EndingFacts.{ends_by}
 use Rattle.nms_verdicts.proofs.why.explain_plan.Goals as goal
 
-pub returns-in-Ok-told : goal.returns-in-Ok-told
-returns-in-Ok-told g c = ends_by c.args.setup.now c.args.changes.now c.args.plan.now c.args.certificate.now.items
-    c.in-Ok-judge.verdict c.ending.result c.ending.ensures c.in-Ok-judge.ensures.judged
+pub returns-in-Ok : goal.returns-in-Ok
+returns-in-Ok g c =
+    let tape = c.args.tape.now in
+    ends_by tape.setup.now tape.changes.items c.args.plan.now c.args.certificate.now.items c.judge-verdict.result c.ending.result
+    c.ending.ensures (rw c.in_ok-replay.ensures.tape at c.judge-verdict.ensures.judged)

@@ -1,7 +1,7 @@
 -- `timed`: clause `window`, by `timed_within`.
-use Rattle.std.proofs.Common.{◌≡◌, ◌≤◌, true, ap, ◌∙◌, arith, rules}
+use Rattle.std.proofs.Common.{◌≡◌, true, ap, ◌∙◌, arith, rules}
 use Rattle.nms_times.specs.Clock.{earlier_by, is_clock, later_by}
-use Rattle.nms_trades.specs.When.{timed, version_by}
+use Rattle.nms_trades.specs.When.{version_by}
 use Rattle.nms_trades.proofs.WindowFacts.{timed_within}
 use Rattle.nms_trades.proofs.clock.Clock.timed.Goals as goal
 

@@ -1,0 +1,48 @@
+//! The changes of a file, with what is known of them.
+ghost use Rattle.std.specs.Prelude.{◌≡◌, ◌≤◌, All, IfErr, IfOk, length, true};
+ghost use Rattle.nms_quote.specs.Roster.{holds, sizes_of};
+ghost use Rattle.nms_quote.specs.declared.TheConstants.{MOST_CHANGES};
+ghost use Rattle.nms_files.specs.ChangeFile.{IsFileFault, IsFileTape};
+
+use nms_fees::Setup;
+use nms_files::{ChangesFault, read_changes};
+use nms_quote::{Change, Roster};
+use std::alloc::Global;
+use std::io::Read;
+
+/// Changes of a setup's participants and symbols, no more than a board takes: so who is given a tape need not ask for that.
+#[derive(Drop)]
+pub struct Tape<'a> {
+    /// The setup.
+    pub setup: &'a Setup,
+    /// Its roster.
+    pub roster: &'a Roster,
+    /// The changes, first to last.
+    pub changes: Vec<Change>,
+    pub ghost own: { roster.now ≡ setup.now.roster },
+    pub ghost held: { All (λ change. holds (sizes_of roster.now) change ≡ true) changes.items },
+    pub ghost few: { length changes.items ≤ MOST_CHANGES },
+}
+
+impl<'a> Tape<'a> {
+    /// The changes of a file, read whole by `read_changes` of `nms_files`.
+    pub fn read<R: Read + Drop>(
+        alloc: Global,
+        setup: &'a Setup,
+        source: R,
+    ) -> Result<Self, ChangesFault>
+        ensures file { IfOk result (λ tape. IsFileTape setup.now (R.remaining source) tape.changes.items) }
+        ensures setup { IfOk result (λ tape. tape.setup.now ≡ setup.now) }
+        ensures roster { IfOk result (λ tape. tape.roster.now ≡ setup.now.roster) }
+        ensures refused { IfErr result (IsFileFault setup.now (R.remaining source)) }
+    {
+        match read_changes(alloc, setup, source) {
+            Ok(changes) => Ok(Tape {
+                setup,
+                roster: setup.roster(),
+                changes,
+            }),
+            Err(fault) => Err(fault),
+        }
+    }
+}
