@@ -181,9 +181,9 @@ def expected(tool, setup, epochs, clients):
     return wanted
 
 
-def check_epochs(what, setup, epochs):
+def check_epochs(what, setup, epochs, resumed=False):
     """Whether each epoch's tape is whole and published in batches, and begins with the opening changes of the one before; and
-    how many opening changes each has."""
+    how many opening changes each has. If a run was resumed, an epoch may begin before the tape is full."""
     with open(setup, "rb") as file:
         told = tomllib.load(file)
     limit, lots = told["tape_limit"], {it["name"]: it["lot"] for it in told["symbol"]}
@@ -195,7 +195,7 @@ def check_epochs(what, setup, epochs):
             opened = opening_of(before, parts, lots)
             good &= check(f"{name}: its opening changes", changes[: len(opened)] == opened, (changes[:9], opened[:9]))
             good &= check(f"{name}: they are published at once", not opened or published[:1] == [len(opened)], published[:9])
-            good &= check(f"{name}: the tape before it was full", len(before) == limit and len(changes) > len(opened), len(before))
+            good &= check(f"{name}: the tape before it was full", resumed or len(before) == limit and len(changes) > len(opened), len(before))
             begun = len(opened)
         rest = published[begun > 0 :]
         rising = all(low < high <= low + MOST_BATCH for low, high in zip([begun, *rest], rest))
@@ -211,10 +211,10 @@ def taken_in(epochs, begun):
     return [line for (changes, _), count in zip(epochs, begun) for line in changes[count:]]
 
 
-def replay(what, tool, setup, tape, streams):
+def replay(what, tool, setup, tape, streams, resumed=False):
     """Checks a run that is over: its tape's files, and each client's requests and answers as bytes."""
     epochs = read_epochs(tape)
-    good, begun = check_epochs(what, setup, epochs)
+    good, begun = check_epochs(what, setup, epochs, resumed)
     try:
         clients = [(records(asks), blocks(answers)) for asks, answers in streams]
     except ValueError as error:
@@ -677,6 +677,184 @@ def epoch_borders(program, tool):
         heard.ends(it.what, 0)
 
 
+# ---- runs that go on after the end of an earlier one
+
+def name_of(tape, epoch):
+    """The path of an epoch's tape."""
+    return f"{tape}.{epoch}" if epoch else tape
+
+
+def texts_of(tape):
+    """The bytes of all files of a tape, by their names."""
+    folder, base = os.path.split(tape)
+    return {name: bytes_of(f"{folder}/{name}") for name in sorted(os.listdir(folder)) if name.startswith(base)}
+
+
+def left_by(tape):
+    """What a killed run has left, by a plain reckoning: the last epoch of which something was published and its changes, the epoch
+    that begins next, how many changes are cut, and how many of a begun epoch."""
+    last = 0
+    while os.path.exists(name_of(tape, last + 1)):
+        last += 1
+
+    def read(epoch):
+        path = name_of(tape, epoch)
+        whole = bytes_of(f"{path}.published").split(b"\n")[:-1] if os.path.exists(f"{path}.published") else []
+        lines, count = bytes_of(path).split(b"\n"), int(whole[-1]) if whole else 0
+        return lines[:count], len(lines) - count - (lines[-1] == b"")
+
+    published, cut = read(last)
+    if published or not last:
+        return last, published, last + bool(published), cut, None
+    before, nothing = read(last - 1)
+    return last - 1, before, last, nothing, cut
+
+
+def ranks_of(tool, setup, path, syms):
+    """The ranks of each symbol on a tape, without versions and receipts."""
+    said = {}
+    for sym in syms:
+        ran = subprocess.run([tool, "report", "--setup", setup, path, sym], stdout=subprocess.PIPE, check=False, timeout=MOST)
+        head, *rows = ran.stdout.split(b"\n")[:-1]
+        said[sym] = ran.returncode, head.split()[2:], [row.split()[:4] + row.split()[5:] for row in rows]
+    return said
+
+
+def saw_published(what, tape, answers):
+    """Whether each version that a client of a killed run saw was published before, and is whole in the tape."""
+    epoch, good = 0, True
+    for line in bytes_of(answers).split(b"\n")[:-1]:
+        kind, *fields = line.split(b",")
+        epoch = int(fields[0]) if kind == b"EPOCH" else epoch
+        if kind in (b"BEST", b"PLAN", b"THRU"):
+            version, path = version_of(line), name_of(tape, epoch)
+            lengths = [0, *map(int, bytes_of(f"{path}.published").split(b"\n")[:-1])]
+            good &= version in lengths and version <= bytes_of(path).count(b"\n")
+    return check(f"{what}: each version that was seen is published", good)
+
+
+def resumed_runs(program, tool, seed, turns=4, kills=4):
+    """A run that is killed at any moment, and resumed: nothing that was published is lost, each symbol shows the same ranks, and the
+    whole tape, of several runs, is the scripts of its epochs."""
+    for turn in range(turns):
+        chance = random.Random(seed + turn)
+        drawn, room, what = Drawn(chance, True), Room(program, tool), f"killed and resumed, seed {seed + turn}"
+        setup, tape, good = room.write("setup.toml", drawn.setup()), room.path("tape"), True
+        texts = {letter: room.write(f"feed_{letter}", text) for letter, text in drawn.texts.items()}
+        for kill in range(kills + 1):
+            name, left = f"{what}, run {kill}", None
+            if os.path.exists(tape):
+                left = left_by(tape)
+                room.write("before", b"".join(line + b"\n" for line in left[1]))
+            asks = [line for line in drawn.clients[0] if chance.random() < 0.9] + [f"N,0,{sym}\n".encode() for sym in drawn.syms]
+            words = ["--setup", setup, "--tape", tape, "--resume"]
+            for letter, path in texts.items():
+                words += ["--feed", f"{letter}={path if kill < kills else '/dev/null'}"]
+            words += ["--client", f"{room.write('asks', b''.join(asks))},{room.write(f'answers{kill}', b'')}"]
+            started = room.start(*words)
+            heard = Heard(started)
+            if kill < kills:
+                until = time.monotonic() + chance.choice([0.05, 0.3, 0.6, 1.5]) * chance.random()
+                while time.monotonic() < until and started.poll() is None:
+                    time.sleep(0.001)
+                started.kill()
+                started.wait()
+                heard.join(10)
+            else:
+                heard.ends(name, 0)
+            good &= saw_published(name, tape, room.path(f"answers{kill}"))
+            if left is None or not heard.lines:
+                continue
+            last, published, epoch, cut, again = left
+            count = len(published)
+            if epoch:
+                head = f"resumed {name_of(tape, last)}: {cut} changes were cut, "
+                head += f"epoch {epoch} begins with " if again is None else f"and {again} of epoch {epoch}, which begins again with "
+            else:
+                head = f"resumed {tape}: {cut} changes were cut, epoch 0 begins again"
+            told = [line for line in heard.lines if line.startswith("resumed ")]
+            good &= check(f"{name}: it reports what was left", not told and kill < kills or len(told) == 1 and told[0].startswith(head), (told, head, heard.lines[:5]))
+            if not told or not epoch:
+                continue
+            good &= check(f"{name}: the tape is cut", bytes_of(name_of(tape, last)).count(b"\n") == count, count)
+            with open(setup, "rb") as file:
+                lots = {it["name"]: it["lot"] for it in tomllib.load(file)["symbol"]}
+            opened = opening_of(published, list(drawn.parts), lots)
+            now = bytes_of(name_of(tape, epoch)).split(b"\n")[: len(opened)]
+            good &= check(f"{name}: the opening changes", now == opened and told[0] == f"{head}{len(opened)} opening changes", (now[:5], opened[:5], told))
+            room.write("after", b"".join(line + b"\n" for line in now))
+            ranks = [ranks_of(tool, setup, room.path(it), drawn.syms) for it in ("before", "after")]
+            good &= check(f"{name}: the ranks are the same", ranks[0] == ranks[1], ranks)
+            kind, *number = bytes_of(room.path(f"answers{kill}")).split(b"\n")[0].split(b",")
+            over = not kind or kind == b"EPOCH" and int(number[0]) >= epoch
+            good &= check(f"{name}: EPOCH stands before the first answer", over, (kind, number))
+        good &= replay(what, tool, setup, tape, [(bytes_of(room.path("asks")), bytes_of(room.path(f"answers{kills}")))], resumed=True)
+        if good:
+            room.drop()
+        else:
+            print(f"{what}: its files are left in {room.folder}", flush=True)
+
+
+def unresumed(program, tool):
+    """What no run has left is refused by its path, and nothing is altered. With nothing there, --resume begins a tape."""
+    ten = GOOD.replace(b"9.99", b"9.9900").replace(b"10.01", b"10.0100")
+    whole = {"tape": ten * 3, "tape.published": b"1\n3\n"}
+    empty = {"tape.1": b"", "tape.1.published": b""}
+    refusals = (
+        ("a tape of no setup", {**whole, "tape.setup": None}, "the setup of the tape is missing", "tape.setup"),
+        ("a tape of another setup", {**whole, "tape.setup": SETUP.encode() + b"\n"}, "the tape is of another setup", "tape.setup"),
+        ("a tape without its lengths", {**whole, "tape.published": None}, "a file of the tape is missing", "tape.published"),
+        ("lengths without their tape", {**whole, "tape": None}, "a file of the tape is missing", "tape"),
+        ("lengths beyond the tape", {**whole, "tape.published": b"1\n4\n"}, "the tape can't be resumed: it has fewer changes than its lengths say", "tape"),
+        ("lengths that fall", {**whole, "tape.published": b"3\n3\n"}, "the tape can't be resumed: a line of its lengths is none that a run writes", "tape.published"),
+        ("a length that is none", {**whole, "tape.published": b"1\n+3\n"}, "the tape can't be resumed: a line of its lengths is none that a run writes", "tape.published"),
+        ("more than a batch after the last length", {**whole, "tape": ten * 68}, "the tape can't be resumed: more changes are after its last length than a run leaves", "tape"),
+        ("more than a batch with nothing published", {"tape": ten * 65, "tape.published": b""}, "the tape can't be resumed: more changes are after its last length than a run leaves", "tape"),
+        ("a record that the setup refuses", {**whole, "tape": ten + b"Q,Z,ABC,A,,,,\n" + ten}, "the tape can't be resumed: this setup refuses a record of it: L3: unknown participant", "tape"),
+        ("a blank line", {**whole, "tape": ten + b"\n" + ten}, "the tape can't be resumed: its records are not one a line", "tape"),
+        ("an epoch that is missing", {**whole, "tape.2": b"", "tape.2.published": b""}, "a file of the tape is missing", "tape.1"),
+        ("an epoch with one file", {**whole, "tape.1.published": b""}, "a file of the tape is missing", "tape.1"),
+        ("a number of no epoch", {**whole, "tape.01": b""}, "this is no file of a tape", "tape.01"),
+        ("a number beyond all epochs", {**whole, "tape.4294967297": b""}, "this is no file of a tape", "tape.4294967297"),
+        ("an epoch that published nothing, and a later one", {"tape": b"", "tape.published": b"", **empty}, "an epoch published nothing, and is not the last", "tape.published"),
+    )
+    for what, files, said, path in refusals:
+        with Failing(program, tool, f"resume: {what}") as it:
+            for name, text in {"tape.setup": SETUP.encode(), **files}.items():
+                if text is not None:
+                    it.room.write(name, text)
+            before = texts_of(it.tape)
+            it.ends(it.room.start(*it.words("/dev/null"), "--resume"), 2, f"usage: {said}: {it.room.path(path)}")
+            check(f"{it.what}: nothing is altered", texts_of(it.tape) == before, before)
+    left = (
+        ("nothing", {}, [], 0, {}),
+        ("the setup's file alone, cut", {"tape.setup": SETUP.encode()[:9]}, [], 0, {}),
+        ("a tape that has its first file only", {"tape": b""}, ["resumed {tape}: 0 changes were cut, epoch 0 begins again"], 0, {}),
+        ("a tape of which nothing was published", {"tape": ten + ten[:7], "tape.published": b"1"}, ["resumed {tape}: 2 changes were cut, epoch 0 begins again"], 0, {}),
+        ("a tape that is whole", whole, ["resumed {tape}: 0 changes were cut, epoch 1 begins with 1 opening changes"], 1, whole),
+        ("half a change and half a length", {"tape": ten * 64 + ten[:9], "tape.published": b"1\n3\n6"}, ["resumed {tape}: 62 changes were cut, epoch 1 begins with 1 opening changes"], 1, whole),
+        ("an epoch that has its first file only", {**whole, "tape.1": b""}, ["resumed {tape}: 0 changes were cut, and 0 of epoch 1, which begins again with 1 opening changes"], 1, whole),
+        ("an epoch of which nothing was published", {**whole, "tape.1": ten[:5], "tape.1.published": b""}, ["resumed {tape}: 0 changes were cut, and 1 of epoch 1, which begins again with 1 opening changes"], 1, whole),
+    )
+    for what, files, told, epoch, cut in left:
+        with Failing(program, tool, f"resume: {what}") as it:
+            for name, text in ({"tape.setup": SETUP.encode(), **files} if files else {}).items():
+                it.room.write(name, text)
+            heard = Heard(it.room.start(*it.words(it.room.write("a", GOOD)), "--resume"))
+            heard.ends(it.what, 0)
+            lines = [line for line in heard.lines if line.startswith("resumed ")]
+            check(f"{it.what}: it reports that", lines == [line.format(tape=it.tape) for line in told], heard.lines)
+            wanted = {**cut, "tape.setup": SETUP.encode(), **({"tape.1": ten * 2, "tape.1.published": b"1\n2\n"} if epoch else {"tape": ten, "tape.published": b"1\n"})}
+            check(f"{it.what}: its files", texts_of(it.tape) == wanted, texts_of(it.tape))
+    with Failing(program, tool, "resume: a tape that another run has") as it:
+        started = it.room.start(*it.words(it.room.fifo("a"), "/dev/null", "--resume"), stdin=subprocess.PIPE)
+        with open(it.room.path("a"), "wb"):
+            check(f"{it.what}: the first serves", seen(started, 0))
+            it.ends(it.room.start(*it.words("/dev/null"), "--resume"), 2, f"usage: another run has the tape: {it.tape}.setup")
+        started.stdin.close()
+        Heard(started).ends(it.what, 0)
+
+
 def refused_records(program, tool):
     """Refused records: passed over and counted, at most ten a second reported; with --strict the first ends the run."""
     with Failing(program, tool, "many refused records") as it:
@@ -935,7 +1113,8 @@ def shared_tapes(program, tool):
         started = it.room.start(*it.words(fifo), stdin=subprocess.PIPE)
         heard = Heard(started)
         check(f"{it.what}: the first serves", heard.has("serving"), heard.lines)
-        it.ends(it.room.start(*it.words(it.room.write("c", OTHER))), 2, f"usage: a file of the tape is there already: {it.tape}.published")
+        status, _, errors = end_of(it.what, it.room.start(*it.words(it.room.write("c", OTHER))))
+        check(f"{it.what}: it names a file", status == 2 and f"nms_serve: usage: a file of the tape is there already: {it.tape}" in errors, (status, errors))
         with open(fifo, "wb", buffering=0) as feed:
             feed.write(GOOD)
         started.stdin.close()
@@ -1178,6 +1357,363 @@ def kept_feeds(program, tool):
             it.ends(started, status, said)
 
 
+# A run that can be asked to end: the program looks for these signals if they are blocked when it starts.
+BLOCKED = ["env", "--block-signal=TERM,INT"]
+# Sixteen desks, and a queue that a burst fills.
+MANY = SETUP.replace("desks = 2", "desks = 16")
+# A request of each kind, good and refused: all that a router may be in the middle of.
+KINDS = (b"N,0,ABC\n", b"E,3,ABC,10.0100\n", b"O,1,B,ABC,300,10.02\n", b"O,15,S,ABC,700,9.98,M\n", b"O,2,B,ABC,100,10.02,,N+Y\n", b"N,99,ABC\n", b"?\n")
+
+
+class Router(threading.Thread):
+    """A router of a client: it opens its two FIFOs in any order, sends its requests, and reads its answers to their end."""
+
+    def __init__(self, seed, paths, lines, pace=0):
+        super().__init__(daemon=True)
+        self.chance, self.paths, self.lines, self.pace = random.Random(seed), paths, lines, pace
+        self.answers, self.is_late = b"", False
+        self.start()
+
+    def run(self):
+        modes = [(self.paths[0], "wb"), (self.paths[1], "rb")]
+        if self.chance.random() < 0.5:
+            modes.reverse()
+        ends = {mode: open(path, mode, buffering=0) for path, mode in modes}
+        # A run that ends leaves the requests without a reader.
+        with contextlib.suppress(BrokenPipeError):
+            for line in self.lines:
+                ends["wb"].write(line)
+                self.answers += self.answer(ends["rb"])
+                if self.pace:
+                    time.sleep(self.chance.random() * self.pace)
+        ends["wb"].close()
+        while more := ends["rb"].read(65536):
+            self.answers += more
+        ends["rb"].close()
+
+    def answer(self, output):
+        """What is there of the answers, at least one, with all its lines."""
+        text = b""
+        while True:
+            more = output.read(65536)
+            if not more:
+                return text
+            text += more
+            with contextlib.suppress(ValueError, IndexError):
+                blocks(text)
+                return text
+
+
+def renew(paths):
+    """Makes a client's FIFOs anew, that of its requests first."""
+    for path in paths:
+        os.mkfifo(f"{path}.new")
+    for path in paths:
+        os.rename(f"{path}.new", path)
+
+
+def dies(seed, paths, is_anew):
+    """A router that dies: it sends requests, some of them in part, reads some of its answers, and leaves at a random moment, with
+    either end first. Returns what it sent, and what it read."""
+    chance = random.Random(seed)
+    if is_anew:
+        renew(paths)
+    modes = [(paths[0], os.O_WRONLY), (paths[1], os.O_RDONLY)]
+    if chance.random() < 0.5:
+        modes.reverse()
+    ends = {mode: os.open(path, mode) for path, mode in modes}
+    asks, output = ends[os.O_WRONLY], ends[os.O_RDONLY]
+    text = b"".join(chance.choice(KINDS) for _ in range(chance.choice([1, 1, 2, 7, 40])))
+    sent = text[: chance.randrange(1, len(text) + 1)] if chance.random() < 0.7 else text
+    os.write(asks, sent)
+    got = b""
+    # A part of a request has no answer.
+    if chance.random() < 0.6 and select.select([output], [], [], 0.2)[0]:
+        got = os.read(output, chance.choice([1, 30, 300, 65536]))
+    time.sleep(chance.choice([0, 0, 0.001, 0.02]))
+    for end in chance.sample([asks, output], 2):
+        os.close(end)
+        time.sleep(chance.choice([0, 0, 0.001]))
+    return sent, got
+
+
+def whole_part(sent, got):
+    """The requests that a router had whole answers to, and these answers."""
+    lines = got.split(b"\n")
+    while lines:
+        text = b"".join(line + b"\n" for line in lines[:-1])
+        lines.pop()
+        with contextlib.suppress(ValueError, IndexError):
+            count = len(blocks(text))
+            return b"".join(line + b"\n" for line in records(sent)[:count]), text
+    return b"", b""
+
+
+def dying_routers(program, tool):
+    """With --keep a router that dies ends its own connection, and the others see no difference. One client of sixteen dies in the
+    middle of its requests, again and again; each answer of each router is the script's."""
+    for is_anew in (False, True):
+        with Failing(program, tool, f"routers that die, {'FIFOs made anew' if is_anew else 'FIFOs kept'}", MANY) as it:
+            chance, fifos = random.Random(4711 + is_anew), (it.room.fifo("a"), it.room.fifo("b"))
+            paths = [(it.room.fifo(f"in{number}"), it.room.fifo(f"out{number}")) for number in range(16)]
+            words = it.words(*fifos, "--keep")
+            for pair in paths:
+                words += ["--client", ",".join(pair)]
+            started = subprocess.Popen([*BLOCKED, program, *words], stdin=subprocess.DEVNULL, stdout=subprocess.PIPE, stderr=subprocess.PIPE)
+            heard = Heard(started)
+            check(f"{it.what}: it serves", heard.has("serving"), heard.lines)
+            is_over = threading.Event()
+            others = [Router(chance.random(), pair, steady(chance.random(), is_over), 0.004) for pair in paths[1:]]
+            feeds = [threading.Thread(target=quote, args=(path, part, is_over), daemon=True) for path, part in zip(fifos, b"NY")]
+            for feed in feeds:
+                feed.start()
+            streams, turns, left = [], 200 if is_anew else 100, r"client 1: its router has left: \d+ requests, \d+ refused"
+            has_left = lambda: sum(re.fullmatch(left, line) is not None for line in heard.lines)
+            for turn in range(1, turns + 1):
+                sent, got = dies(chance.random(), paths[0], is_anew)
+                streams.append(whole_part(sent, got))
+                # A router that takes the FIFOs of the one before comes once that one's end was found.
+                until = time.monotonic() + 20
+                while not is_anew and has_left() < turn and time.monotonic() < until:
+                    time.sleep(0.005)
+            if is_anew:
+                renew(paths[0])
+            last = Router(1, paths[0], list(KINDS))
+            last.join(20)
+            check(f"{it.what}: the next router is answered", not last.is_alive(), heard.lines[-9:])
+            streams.append((b"".join(last.lines), last.answers))
+            is_over.set()
+            for feed in feeds:
+                feed.join(20)
+            for other in others:
+                other.join(20)
+            check(f"{it.what}: the others are answered to their end", not any(other.is_alive() for other in others))
+            check(f"{it.what}: the run goes on", started.poll() is None, heard.lines[-9:])
+            started.send_signal(signal.SIGTERM)
+            heard.ends(it.what, 0)
+            check(f"{it.what}: routers that left", has_left() > turns / 4 if is_anew else has_left() == turns + 1, (has_left(), heard.lines[-9:]))
+            versions = [version for _, answers in streams for _, block in blocks(answers) if (version := version_of(block)) is not None]
+            check(f"{it.what}: the versions of its routers do not fall", len(versions) > 9 and versions == sorted(versions), versions[-30:])
+            check(f"{it.what}: the counts of the others", all(f"client {number}: ended: {len(blocks(other.answers))} requests, 0 refused" in heard.lines for number, other in enumerate(others, 2)), heard.lines[-20:])
+            streams += [(b"".join(other.lines.said), other.answers) for other in others]
+            replay(it.what, tool, it.setup, it.tape, streams)
+
+
+class steady:
+    """Good requests without an end, until the test is over; and those that were sent."""
+
+    def __init__(self, seed, is_over):
+        self.chance, self.is_over, self.said = random.Random(seed), is_over, []
+
+    def __iter__(self):
+        while not self.is_over.is_set():
+            self.said.append(self.chance.choice(KINDS[:5]))
+            yield self.said[-1]
+
+
+def quote(path, part, is_over):
+    """A feed that sends quotations until the test is over."""
+    chance = random.Random(part)
+    with open(path, "wb", buffering=0) as feed:
+        while not is_over.is_set():
+            bid = 99_000 + 100 * chance.randrange(10)
+            feed.write(b"Q,%c,ABC,A,%d.%04d,100,10.01,%d\n" % (part, bid // 10_000, bid % 10_000, chance.choice([100, 200])))
+            time.sleep(chance.random() * 0.004)
+
+
+def kept_clients(program, tool):
+    """With --keep a client's FIFOs wait for its next router; what a router left behind is nobody's."""
+    def begun(it, *more, setup=()):
+        words = it.words(it.room.fifo("a"), "/dev/null", "--keep", *more)
+        for number in "12":
+            words += ["--client", f"{it.room.fifo('in' + number)},{it.room.fifo('out' + number)}"]
+        started = subprocess.Popen([*BLOCKED, program, *words], stdin=subprocess.DEVNULL, stdout=subprocess.PIPE, stderr=subprocess.PIPE)
+        return started, Heard(started)
+
+    def stopped(it, started, heard, *said):
+        started.send_signal(signal.SIGTERM)
+        heard.ends(it.what, 0)
+        for line in said:
+            check(f"{it.what}: {line}", line in heard.lines, heard.lines[-12:])
+
+    with Failing(program, tool, "routers that come and go") as it:
+        started, heard = begun(it)
+        paths = it.room.path("in1"), it.room.path("out1")
+        for turn in range(20):
+            router = Router(turn, paths, [b"N,0,ABC\n", b"?\n"])
+            router.join(20)
+            lines = router.answers.split(b"\n")
+            check(f"{it.what}: turn {turn}", lines[0].startswith(b"BEST,0,ABC,0,") and lines[1:] == [b"ERR,2,L1", b""], lines)
+        check(f"{it.what}: each is reported", heard.has("client 1: its router has left: 2 requests, 1 refused", 20), heard.lines)
+        stopped(it, started, heard, "client 1: ended: 40 requests, 20 refused", "client 2: ended: 0 requests, 0 refused")
+    with Failing(program, tool, "answers that a router left behind") as it:
+        started, heard = begun(it)
+        paths = it.room.path("in1"), it.room.path("out1")
+        asks, output = os.open(paths[0], os.O_WRONLY), os.open(paths[1], os.O_RDONLY)
+        os.write(asks, b"N,0,ABC\n" * 100)
+        time.sleep(0.3)
+        os.close(asks)
+        os.close(output)
+        check(f"{it.what}: it has left", heard.has("client 1: its router has left: 100 requests, 0 refused"), heard.lines)
+        router = Router(1, paths, [b"X\n"])
+        router.join(20)
+        check(f"{it.what}: the next one finds its own", router.answers == b"ERR,1,L1\n", router.answers)
+        stopped(it, started, heard, "client 1: ended: 101 requests, 1 refused")
+    with Failing(program, tool, "answers that are closed while a request is under way") as it:
+        started, heard = begun(it)
+        paths = it.room.path("in1"), it.room.path("out1")
+        asks, output = os.open(paths[0], os.O_WRONLY), os.open(paths[1], os.O_RDONLY)
+        os.write(asks, b"N,0,ABC\n")
+        os.read(output, 100)
+        os.close(output)
+        os.write(asks, b"N,0,ABC\n" * 50)
+        path = paths[1]
+        check(f"{it.what}: its fault", heard.has(f"client 1: E2: the answers to client 1 could not be written: {path}: Broken pipe (os error 32)"), heard.lines)
+        other = Router(1, (it.room.path("in2"), it.room.path("out2")), [b"N,1,ABC\n"] * 9)
+        other.join(20)
+        check(f"{it.what}: the other is served", other.answers.count(b"BEST,1,ABC,") == 9, other.answers)
+        os.close(asks)
+        check(f"{it.what}: it has left", heard.has("client 1: its router has left: 1 requests, 0 refused"), heard.lines)
+        router = Router(1, paths, [b"N,0,ABC\n"])
+        router.join(20)
+        check(f"{it.what}: the next one is served", router.answers.count(b"BEST,0,ABC,") == 1, router.answers)
+        stopped(it, started, heard, "client 1: ended: 2 requests, 0 refused")
+    with Failing(program, tool, "a client's FIFOs that are removed and made again") as it:
+        started, heard = begun(it)
+        paths = it.room.path("in1"), it.room.path("out1")
+        for turn in range(20):
+            router = Router(turn, paths, [b"N,0,ABC\n"])
+            router.join(20)
+            check(f"{it.what}: turn {turn}", router.answers.count(b"BEST,0,ABC,") == 1, (router.answers, heard.lines[-5:]))
+            for path in paths:
+                os.remove(path)
+            time.sleep(0.05 * (turn % 2))
+            for path in paths:
+                os.mkfifo(path)
+        stopped(it, started, heard, "client 1: ended: 20 requests, 0 refused")
+    with Failing(program, tool, "kept clients without a router, idle") as it:
+        started, heard = begun(it)
+        check(f"{it.what}: it serves", heard.has("serving"), heard.lines)
+        before = time_of(started.pid)
+        time.sleep(3)
+        took = time_of(started.pid) - before
+        check(f"{it.what}: it takes little of a processor", took < 0.3, took)
+        stopped(it, started, heard)
+    with Failing(program, tool, "a client's fault without --keep") as it:
+        words = [*it.words(it.room.fifo("a"), "/dev/null"), "--client", f"{it.room.fifo('in')},{it.room.fifo('out')}"]
+        started = it.room.start(*words)
+        asks, output = os.open(it.room.path("in"), os.O_WRONLY), os.open(it.room.path("out"), os.O_RDONLY)
+        os.close(output)
+        os.write(asks, b"N,0,ABC\n")
+        it.ends(started, 1, f"E2: the answers to client 1 could not be written: {it.room.path('out')}: Broken pipe (os error 32)")
+        os.close(asks)
+
+
+def asked_to_end(program, tool):
+    """TERM or INT, blocked when the program starts, ends a run cleanly at any moment: all that is counted is on the tape, and all that
+    is on the tape was published."""
+    for turn in range(60):
+        number, chance = (signal.SIGTERM, signal.SIGINT)[turn % 2], random.Random(turn)
+        with Failing(program, tool, f"{number.name}, blocked, turn {turn}", MANY) as it:
+            is_kept, is_bad = chance.random() < 0.5, chance.random() < 0.3
+            fifos, pair = (it.room.fifo("a"), it.room.fifo("b")), (it.room.fifo("in"), it.room.fifo("out"))
+            words = [*it.words(*fifos, *["--keep"] * is_kept), "--client", ",".join(pair), "--client", f"{it.room.fifo('in2')},{it.room.fifo('out2')}"]
+            started = subprocess.Popen([*BLOCKED, program, *words], stdin=subprocess.DEVNULL, stdout=subprocess.PIPE, stderr=subprocess.PIPE)
+            heard = Heard(started)
+            if turn % 5:
+                texts = [line * 3000 for line in (GOOD, FROM_B)]
+                if is_bad:
+                    texts[0] = b"?\n" + texts[0]
+                for path, text in zip(fifos, texts):
+                    threading.Thread(target=pushed, args=(path, text), daemon=True).start()
+                router = Router(turn, pair, [b"N,0,ABC\n", b"O,0,B,ABC,300,10.02\n"] * 200)
+            check(f"{it.what}: it serves", heard.has("serving"), heard.lines)
+            time.sleep(chance.choice([0, 0.01, 0.05, 0.2, 0.5]))
+            begun = time.monotonic()
+            started.send_signal(number)
+            if turn % 3 == 0:
+                time.sleep(0.05)
+                started.send_signal(number)
+            with contextlib.suppress(subprocess.TimeoutExpired):
+                started.wait(30)
+            took = time.monotonic() - begun
+            counts = [re.fullmatch(r"feed ([AB]): ended: (\d+) records, (\d+) refused", line) for line in heard_all(started, heard)]
+            counts = {found[1]: (int(found[2]), int(found[3])) for found in counts if found}
+            refused = sum(count for _, count in counts.values())
+            check(f"{it.what}: its status", started.returncode == (6 if refused else 0), (started.returncode, heard.lines[-9:]))
+            check(f"{it.what}: it ends in time", took < 5, took)
+            changes, published = bytes_of(it.tape).splitlines(keepends=True), bytes_of(f"{it.tape}.published").split()
+            check(f"{it.what}: all that is on the tape was published", int((published or [b"0"])[-1]) == len(changes), (published[-3:], len(changes)))
+            check(f"{it.what}: the counts of the feeds", set(counts) == set("AB"), heard.lines[-9:])
+            for letter, line in (("A", stood(GOOD)), ("B", stood(FROM_B))):
+                taken, bad = counts.get(letter, (0, 0))
+                check(f"{it.what}: all that feed {letter} sent and was counted is on the tape", changes.count(line) == taken - bad and bad <= is_bad, (counts, changes.count(line)))
+            last = f"{len(changes)} changes, published {len(published)} times"
+            check(f"{it.what}: the last line", heard.lines[-1:] == [last], heard.lines[-3:])
+            if turn % 5:
+                router.join(20)
+                check(f"{it.what}: its answers are whole", not router.is_alive() and is_whole(router.answers), router.answers[-200:])
+    with Failing(program, tool, "TERM, and a router that reads nothing") as it:
+        pair = it.room.fifo("in"), it.room.fifo("out")
+        started = subprocess.Popen([*BLOCKED, program, *it.words(it.room.fifo("a")), "--client", ",".join(pair)], stdin=subprocess.DEVNULL, stdout=subprocess.PIPE, stderr=subprocess.PIPE)
+        heard = Heard(started)
+        asks, output = os.open(pair[0], os.O_WRONLY), os.open(pair[1], os.O_RDONLY)
+        os.write(asks, b"O,0,B,ABC,300,10.02\n" * 3000)
+        time.sleep(0.5)
+        begun = time.monotonic()
+        started.send_signal(signal.SIGTERM)
+        heard.ends(it.what, 0)
+        check(f"{it.what}: it ends in time", time.monotonic() - begun < 3)
+        check(f"{it.what}: the counts are printed", "feed A: ended: 0 records, 0 refused" in heard.lines, heard.lines)
+        os.close(asks)
+        os.close(output)
+    for more, count in (([], 1), (["--keep"], 1), (["--wait"], 0), (["--keep", "--wait"], 0)):
+        with Failing(program, tool, f"TERM, and a router that waits {more}") as it:
+            pair = it.room.fifo("in"), it.room.fifo("out")
+            words = [*it.words(it.room.fifo("a"), "/dev/null", *more), "--client", ",".join(pair)]
+            started = subprocess.Popen([*BLOCKED, program, *words], stdin=subprocess.DEVNULL, stdout=subprocess.PIPE, stderr=subprocess.PIPE)
+            heard = Heard(started)
+            asks, output = os.open(pair[0], os.O_WRONLY), os.open(pair[1], os.O_RDONLY)
+            os.write(asks, b"N,0,ABC\n" + GOOD[:9])
+            check(f"{it.what}: its answer", bool(select.select([output], [], [], 20 if count else 0.3)[0]) == bool(count))
+            started.send_signal(signal.SIGTERM)
+            heard.ends(it.what, 0)
+            check(f"{it.what}: its counts", heard.lines[-1:] == ["0 changes, published 0 times"] and f"client 1: ended: {count} requests, 0 refused" in heard.lines, heard.lines)
+            check(f"{it.what}: what it is told", os.read(output, 1000).count(b"\n") == count)
+            os.close(asks)
+            os.close(output)
+    with Failing(program, tool, "TERM, not blocked") as it:
+        started = it.room.start(*it.words(it.room.fifo("a")), stdin=subprocess.PIPE)
+        heard = Heard(started)
+        check(f"{it.what}: it serves", heard.has("serving"), heard.lines)
+        started.send_signal(signal.SIGTERM)
+        heard.ends(it.what, -signal.SIGTERM)
+
+
+def pushed(path, text):
+    """Sends a text to a feed, as far as it is read."""
+    with contextlib.suppress(BrokenPipeError), open(path, "wb", buffering=0) as feed:
+        place = 0
+        while place < len(text):
+            place += feed.write(text[place : place + 5000])
+
+
+def heard_all(started, heard):
+    """All lines of a run that has ended."""
+    if started.poll() is None:
+        started.kill()
+    heard.join(10)
+    return heard.lines
+
+
+def is_whole(answers):
+    """Whether answers are whole."""
+    with contextlib.suppress(ValueError, IndexError):
+        blocks(answers)
+        return True
+    return False
+
+
 def stood(line):
     """A change of these tests as it stands on the tape."""
     return re.sub(rb"(\.\d\d),", rb"\g<1>00,", line)
@@ -1299,14 +1835,17 @@ def main():
             asks, answers = pair.split(",")
             with open(asks, "rb") as one, open(answers, "rb") as other:
                 texts.append((one.read(), other.read()))
-        replay(tape, tool, setup, tape, texts)
+        replay(tape, tool, setup, tape, texts, resumed=True)
     else:
+        # A shell starts what it runs in the background with INT ignored, and the programs would inherit that.
+        signal.signal(signal.SIGINT, signal.default_int_handler)
         program, tool = map(os.path.abspath, sys.argv[1:3])
         runs, seed = int((sys.argv[3:] or [20])[0]), int((sys.argv[4:] or [611])[0])
         waiting = threading.Thread(target=silent_feeds, args=(program, tool))
         waiting.start()
-        for part in (shown_help, refused_words, failing_paths, closed_streams, shared_tapes, one_file, unread_errors, told_at_once, full_tape, epoch_borders, refused_records, fixed_requests, torn_feeds, held_requests, kept_feeds, written_first, signals, little_memory):
+        for part in (shown_help, refused_words, failing_paths, closed_streams, shared_tapes, one_file, unread_errors, told_at_once, full_tape, epoch_borders, unresumed, refused_records, fixed_requests, torn_feeds, held_requests, kept_feeds, kept_clients, dying_routers, written_first, signals, asked_to_end, little_memory):
             part(program, tool)
+        resumed_runs(program, tool, seed)
         for number in range(runs):
             run_at_random(seed + number, program, tool)
             run_at_random(seed + 1000 + number, program, tool, is_short=True)

@@ -46,6 +46,7 @@ given : given_by (codes "--feed" ∷ codes "A=a" ∷ codes "--tape" ∷ codes "t
   keep = false;
   wait = true;
   stale = None;
+  resume = false;
 }
 unfolding clap_on_literals
 given = refl

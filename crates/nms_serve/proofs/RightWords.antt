@@ -112,6 +112,7 @@ one_asked given asked other is too =
       keep = (is.keep ∙ sym too.keep) i;
       wait = (is.wait ∙ sym too.wait) i;
       stale = stale i;
+      resume = (is.resume ∙ sym too.resume) i;
     }
 
 -- so they are answered by that, or memory is out

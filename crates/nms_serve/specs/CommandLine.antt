@@ -54,6 +54,9 @@ wait_rule = flag_rule (codes "wait")
 abbrev pub stale_rule : Rule
 stale_rule = valued_rule (codes "stale")
 
+abbrev pub resume_rule : Rule
+resume_rule = flag_rule (codes "resume")
+
 -- the words are those after the program's name, no words at all are refused with the help, and there is a version to print
 abbrev pub without_options : App
 without_options = on_top (λ top. record top { no_binary_name = true; arg_required_else_help = true; has_version = true })
@@ -65,7 +68,7 @@ with_files = fold with_rule without_options (setup_rule ∷ feed_rule ∷ client
 
 -- the whole command line
 abbrev pub serve : App
-serve = fold with_rule with_files (strict_rule ∷ keep_rule ∷ wait_rule ∷ stale_rule ∷ [])
+serve = fold with_rule with_files (strict_rule ∷ keep_rule ∷ wait_rule ∷ stale_rule ∷ resume_rule ∷ [])
 
 -- ---- what the matches hold
 
@@ -79,6 +82,7 @@ pub record Given : Type 0 where
   pub keep : Bool
   pub wait : Bool
   pub stale : Option Text
+  pub resume : Bool
 
 -- whether the matches hold the flag: the parser gives it the value `true` or `false`
 abbrev pub is_flagged : List Row → Text → Bool
@@ -95,6 +99,7 @@ given_in rows = record {
   keep = is_flagged rows (codes "keep");
   wait = is_flagged rows (codes "wait");
   stale = first_of (codes "stale") rows;
+  resume = is_flagged rows (codes "resume");
 }
 
 -- what the words give, by the matches that the parser makes of them
@@ -112,6 +117,7 @@ pub record Asked : Type 0 where
   pub keep : Bool
   pub wait : Bool
   pub stale : Option ℕ
+  pub resume : Bool
 
 -- what is given asks for that
 pub record IsAsked (given : Given) (asked : Asked) : Type 0 where
@@ -124,6 +130,7 @@ pub record IsAsked (given : Given) (asked : Asked) : Type 0 where
   pub keep : asked.keep ≡ given.keep
   pub wait : asked.wait ≡ given.wait
   pub stale : stale_of given.stale ≡ Some asked.stale
+  pub resume : asked.resume ≡ given.resume
 
 abbrev pub shown_feed : FeedPath → Feed
 shown_feed feed = record { place = feed.place; path = string_bytes feed.path }
@@ -142,6 +149,7 @@ shown request = record {
   keep = request.keep;
   wait = request.wait;
   stale = request.stale;
+  resume = request.resume;
 }
 
 -- ---- words that are no request

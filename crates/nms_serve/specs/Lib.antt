@@ -1,4 +1,5 @@
 pub mod CommandLine
 pub mod Faults
+pub mod LeftRuns
 pub mod Options
 pub mod Values

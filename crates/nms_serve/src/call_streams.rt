@@ -1,6 +1,7 @@
 //! The files that the words of a call name: each is there, and no two words name one file.
 use crate::program_fault::ProgramFault;
 use crate::refusal::Refusal;
+use crate::tape_folder::TapeFile;
 use crate::words::{ClientPaths, Request};
 use nms_quote::Feed;
 use nms_serving::Stream;
@@ -67,12 +68,12 @@ impl<'a> Places<'a> {
 }
 
 /// Looks up the files that a call names: each feed's and each client's has to be there, and no two words may name one file.
-/// `lengths` is the path of the tape's lengths.
+/// Nor may a word name one of the tape's files that are there.
 pub(crate) fn check_streams(
     host: &HostRuntime,
     alloc: Global,
     request: &Request,
-    lengths: &str,
+    tape: &[TapeFile],
 ) -> Result<(), Refusal> {
     let mut places = Places {
         found: Vec::new(alloc),
@@ -83,8 +84,10 @@ pub(crate) fn check_streams(
         }
     }
     add_clients(host, &mut places, &request.clients)?;
-    places.add_if_there(host, request.tape.as_str())?;
-    places.add_if_there(host, lengths)
+    for file in tape {
+        places.add_if_there(host, file.path.as_str())?;
+    }
+    Ok(())
 }
 
 /// Adds the paths of the clients; those of standard input and output if there are none.

@@ -2,12 +2,18 @@
 #![tactic(auto)]
 
 mod call_streams;
+mod held_tape;
+mod left_epoch;
+mod left_run;
 mod opening;
 mod program_fault;
 mod refusal;
 mod running;
 mod setting_up;
+mod tape_fault;
+mod tape_folder;
 mod tape_paths;
+mod tape_setup;
 mod telling;
 mod words;
 

@@ -1,15 +1,18 @@
 //! The service of a request: its files are opened, the board is opened, and the run is made.
-use crate::call_streams::check_streams;
+ghost use Rattle.nms_quote.specs.Roster.{sizes_of};
+ghost use Rattle.nms_serve.specs.LeftRuns.{HasNext, IsOfRoster};
+
+use crate::held_tape::{HeldTape, hold_tape};
 use crate::program_fault::ProgramFault;
 use crate::refusal::Refusal;
-use crate::setting_up::read_setup_of;
-use crate::tape_paths::{TapePaths, check_folder};
+use crate::setting_up::{setup_in, setup_text_of};
+use crate::tape_paths::TapePaths;
 use crate::telling::TapeNotice;
 use crate::words::{ClientPaths, FeedPath, Request};
 use nms_fees::Setup;
 use nms_serving::{
-    ClientStreams, Door, Doors, Means, Run, Served, Teller, Text, Ways, has_room_for_epochs,
-    least_tape_limit, serve,
+    ClientStreams, Door, Doors, GoingOn, Means, REFUSED_STATUS, Run, ServeFault, Served, Teller,
+    Text, Ways, has_room_for_epochs, least_tape_limit, resume, serve,
 };
 use std::alloc::{AllocError, Global};
 use std::sync::Wait;
@@ -39,21 +42,17 @@ fn answer_request<R: Threads + Wait + Sync>(
     teller: &Teller,
     request: &Request,
 ) -> Result<u8, Refusal> {
-    let setup = match read_setup_of(host, request) {
-        Ok(setup) => setup,
-        Err(refusal) => return Err(refusal),
-    };
+    let text = setup_text_of(host, request)?;
+    let setup = setup_in(host.alloc(), &text)?;
     check_request(&setup, request)?;
     let alloc = host.alloc();
-    let (Ok(feeds), Ok(clients), Ok(lengths)) = (
+    let (Ok(feeds), Ok(clients)) = (
         doors_of(alloc, setup.feeds(), &request.feeds),
         streams_of(alloc, &request.clients),
-        format!(in alloc; "{}.published", request.tape),
     ) else {
         return Err(Refusal::no_memory());
     };
-    check_folder(host, alloc, request.tape.as_str())?;
-    check_streams(host, alloc, request, lengths.as_str())?;
+    let tape = hold_tape(host, &text, &setup, request)?;
     let run = Run::new(&setup, ways_of(request), teller);
     let means = Means {
         rt,
@@ -65,7 +64,7 @@ fn answer_request<R: Threads + Wait + Sync>(
         feeds: &feeds,
         clients: &clients,
     };
-    serve_streams(&means, &doors, request.tape.as_str(), lengths.as_str())
+    serve_streams(&means, &doors, request.tape.as_str(), &tape)
 }
 
 /// Refuses a request that its setup does not allow.
@@ -97,19 +96,18 @@ fn serve_streams<R: Threads + Wait + Sync>(
     means: &Means<'_, R>,
     doors: &Doors<'_>,
     path: &str,
-    lengths: &str,
-) -> Result<u8, Refusal> {
+    tape: &HeldTape,
+) -> Result<u8, Refusal>
+    requires sizes { IsOfRoster (sizes_of means.now.run.now.setup.now.roster) tape.now.left }
+    requires next { HasNext tape.now.left }
+{
     let paths = TapePaths {
         host: means.host,
         alloc: means.alloc,
         run: means.run,
         path,
     };
-    let (tape, lengths) = paths.open_first(lengths)?;
-    let served = match serve(means, doors, tape, lengths, &paths) {
-        Ok(served) => served,
-        Err(fault) => return Err(Refusal::of(ProgramFault::Serving(fault))),
-    };
+    let served = serve_tape(means, doors, &paths, tape)?;
     means
         .run
         .teller()
@@ -120,10 +118,44 @@ fn serve_streams<R: Threads + Wait + Sync>(
     })
 }
 
+/// Serves the streams on a new tape, or goes on with what an earlier run has left of it.
+fn serve_tape<R: Threads + Wait + Sync>(
+    means: &Means<'_, R>,
+    doors: &Doors<'_>,
+    paths: &TapePaths<'_>,
+    tape: &HeldTape,
+) -> Result<Served, Refusal>
+    requires sizes { IsOfRoster (sizes_of means.now.run.now.setup.now.roster) tape.now.left }
+    requires next { HasNext tape.now.left }
+{
+    if let Some(left) = &tape.left {
+        left.clear(means.host)?;
+        if let Some(from) = &left.from {
+            let going = GoingOn {
+                board: &from.left.board,
+                epoch: left.epoch,
+                report: left.report(),
+            };
+            return or_refused(resume(means, doors, going, paths));
+        }
+        means.run.teller().keep(means.rt, left.report());
+    }
+    let (tape, lengths) = paths.open_first()?;
+    or_refused(serve(means, doors, tape, lengths, paths))
+}
+
+/// What a run gave, if it began.
+fn or_refused(served: Result<Served, ServeFault>) -> Result<Served, Refusal> {
+    match served {
+        Ok(served) => Ok(served),
+        Err(fault) => Err(Refusal::of(ProgramFault::Serving(fault))),
+    }
+}
+
 /// The exit status of a run that ended without a fault.
 fn status_of(served: &Served) -> u8 {
     if served.feeds.iter().any(|end| end.counts.refused > 0) {
-        6
+        REFUSED_STATUS
     } else {
         0
     }

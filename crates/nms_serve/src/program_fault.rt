@@ -1,4 +1,5 @@
 //! Why the program ends with a status other than 0 and 6.
+use crate::tape_fault::TapeFault;
 use crate::words::WordsFault;
 use nms_fees::SetupFault;
 use nms_serving::ServeFault;
@@ -24,6 +25,8 @@ pub(crate) enum ProgramFault {
     Setup(SetupFault),
     /// There is a file of the tape.
     TapeThere,
+    /// The tape is held by another run, or can't be gone on with.
+    Tape(TapeFault),
     /// Two paths of the call name one file.
     OneFile,
     /// The tape of the setup has no room for epochs. The least `tape_limit` that has it.
@@ -43,6 +46,7 @@ impl ProgramFault {
             | ProgramFault::WrongFeeds
             | ProgramFault::MoreClients
             | ProgramFault::TapeThere
+            | ProgramFault::Tape(_)
             | ProgramFault::OneFile => 2,
             ProgramFault::NoSetup | ProgramFault::NoNull => 1,
             ProgramFault::ShortTape(_) => 3,
@@ -68,6 +72,7 @@ impl fmt::Display for ProgramFault {
             ProgramFault::NoSetup => f.write_str("E1: the setup could not be read"),
             ProgramFault::Setup(fault) => fmt::Display::fmt(fault, f),
             ProgramFault::TapeThere => f.write_str("usage: a file of the tape is there already"),
+            ProgramFault::Tape(fault) => fmt::Display::fmt(fault, f),
             ProgramFault::OneFile => f.write_str("usage: two paths name one file"),
             ProgramFault::ShortTape(least) => write!(
                 f,

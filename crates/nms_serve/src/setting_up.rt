@@ -7,25 +7,24 @@ use std::alloc::Global;
 use std::fs;
 use std::io::ErrorKind;
 
-/// The setup of the file that a request names, or the built-in one if it names none.
-pub(crate) fn read_setup_of(host: &HostRuntime, request: &Request) -> Result<Setup, Refusal> {
+/// The text of the setup that a request names, or of the built-in one if it names none.
+pub(crate) fn setup_text_of(host: &HostRuntime, request: &Request) -> Result<Vec<u8>, Refusal> {
     let Some(file) = &request.setup else {
-        return setup_in(host.alloc(), SETUP_K.as_bytes());
+        let mut text = Vec::new(host.alloc());
+        return match text.extend_from_slice(SETUP_K.as_bytes()) {
+            Ok(()) => Ok(text),
+            Err(_) => Err(Refusal::no_memory()),
+        };
     };
-    let bytes = match fs::read(host, file.as_str()) {
-        Ok(bytes) => bytes,
-        Err(error) if error.kind() == ErrorKind::OutOfMemory => {
-            return Err(Refusal::no_memory());
-        }
-        Err(error) => {
-            return Err(Refusal::at(ProgramFault::NoSetup, file.as_str()).and(&error));
-        }
-    };
-    setup_in(host.alloc(), &bytes)
+    match fs::read(host, file.as_str()) {
+        Ok(bytes) => Ok(bytes),
+        Err(error) if error.kind() == ErrorKind::OutOfMemory => Err(Refusal::no_memory()),
+        Err(error) => Err(Refusal::at(ProgramFault::NoSetup, file.as_str()).and(&error)),
+    }
 }
 
-/// The setup that the bytes of a file give.
-fn setup_in(alloc: Global, bytes: &[u8]) -> Result<Setup, Refusal> {
+/// The setup that a text gives.
+pub(crate) fn setup_in(alloc: Global, bytes: &[u8]) -> Result<Setup, Refusal> {
     match read_setup_bytes(alloc, bytes) {
         Ok(setup) => Ok(setup),
         Err(fault) => Err(Refusal::of(ProgramFault::Setup(fault))),

@@ -1,15 +1,12 @@
 //! The files of a run's tape, an epoch after another.
 use crate::program_fault::ProgramFault;
 use crate::refusal::Refusal;
+use crate::tape_folder::{PUBLISHED, is_device};
 use nms_serving::{EpochFiles, Guarded, Named, Run, ServeFault, Stream};
 use std::alloc::Global;
 use std::fs::{File, OpenOptions};
 use std::io::ErrorKind;
-use std::os::unix::fs::FileTypeExt;
 use std::{fs, io};
-
-/// The end of the name of a file of lengths.
-const PUBLISHED: &str = ".published";
 
 /// The two files of an epoch: its tape, and its lengths.
 pub(crate) type TwoFiles<'a> = (Guarded<'a, File>, Guarded<'a, File>);
@@ -33,14 +30,17 @@ enum Unopened {
 
 impl<'a> TapePaths<'a> {
     /// Opens the files of the first epoch, which have to be new.
-    pub(crate) fn open_first(&self, lengths: &str) -> Result<TwoFiles<'a>, Refusal> {
+    pub(crate) fn open_first(&self) -> Result<TwoFiles<'a>, Refusal> {
+        let Ok(lengths) = format!(in self.alloc; "{}{PUBLISHED}", self.path) else {
+            return Err(Refusal::no_memory());
+        };
         let tape = match open_new(self.host, self.path) {
             Ok(file) => file,
             Err(why) => return Err(refused(why, Stream::Tape, self.path)),
         };
-        match open_new(self.host, lengths) {
+        match open_new(self.host, lengths.as_str()) {
             Ok(file) => Ok(self.guarded(tape, file, 0)),
-            Err(why) => Err(refused(why, Stream::Lengths, lengths)),
+            Err(why) => Err(refused(why, Stream::Lengths, lengths.as_str())),
         }
     }
 
@@ -124,61 +124,5 @@ fn open_device(host: &HostRuntime, path: &str) -> Result<File, Unopened> {
         Ok(file) if is_device(file.metadata()) => Ok(file),
         Ok(_) => Err(Unopened::There),
         Err(error) => Err(Unopened::Failed(error)),
-    }
-}
-
-/// Whether what was found is a FIFO or a character device.
-fn is_device(found: io::Result<fs::Metadata>) -> bool {
-    match found {
-        Ok(found) => found.file_type().is_fifo() || found.file_type().is_char_device(),
-        Err(_) => false,
-    }
-}
-
-/// Refuses a tape of which there is a file already, of any epoch. The names in its folder are looked through.
-pub(crate) fn check_folder(host: &HostRuntime, alloc: Global, path: &str) -> Result<(), Refusal> {
-    let (folder, base) = parts_of(path);
-    let listing = match fs::read_dir(host, if folder.is_empty() { "." } else { folder }) {
-        Ok(listing) => listing,
-        Err(error) => return Err(Refusal::of_stream(Stream::Tape, path, &error)),
-    };
-    for entry in listing {
-        let entry = match entry {
-            Ok(entry) => entry,
-            // A name that is not UTF-8 is none of the tape's.
-            Err(error) if error.kind() == ErrorKind::InvalidFilename => continue,
-            Err(error) => return Err(Refusal::of_stream(Stream::Tape, path, &error)),
-        };
-        let name = entry.file_name();
-        if is_of_tape(base, name) && !is_device(fs::metadata(host, entry.path())) {
-            let Ok(there) = format!(in alloc; "{folder}{name}") else {
-                return Err(Refusal::no_memory());
-            };
-            return Err(Refusal::at(ProgramFault::TapeThere, there.as_str()));
-        }
-    }
-    Ok(())
-}
-
-/// The folder of a path with its last slash, and the name in it.
-fn parts_of(path: &str) -> (&str, &str) {
-    let Some((_, base)) = path.rsplit_once('/') else {
-        return ("", path);
-    };
-    match path.strip_suffix(base) {
-        Some(folder) => (folder, base),
-        None => ("", path),
-    }
-}
-
-/// Whether a name is that of a file of a tape, of any epoch.
-fn is_of_tape(base: &str, name: &str) -> bool {
-    let Some(rest) = name.strip_prefix(base) else {
-        return false;
-    };
-    let epoch = rest.strip_suffix(PUBLISHED).unwrap_or(rest);
-    match epoch.strip_prefix('.') {
-        Some(digits) => !digits.is_empty() && digits.bytes().all(|byte| byte.is_ascii_digit()),
-        None => epoch.is_empty(),
     }
 }

@@ -98,6 +98,12 @@ no_part known text = record { part = []; rest = text; split = refl; written = Ap
 pub whole_part : (before after : Option (List ℕ)) (text : List ℕ) → Appends before after text → AppendsPart before after text
 whole_part before after text all = record { part = text; rest = []; split = sym (append-nil text); written = all }
 
+-- what a failed writing leaves: it failed at the tape, or at the lengths
+pub leaves_first : (tape written lengths listed : Option (List ℕ)) (text line : List ℕ) → AppendsPart tape written text → listed ≡ lengths
+    → (AppendsPart tape written text × Appends lengths listed []) ⊎ (Appends tape written text × AppendsPart lengths listed line)
+leaves_first tape written lengths listed text line part same =
+    inl (part, subst (λ (l : Option (List ℕ)). Appends lengths l []) (sym same) (Appends-nil lengths))
+
 -- changes appended to an empty tape are the tape
 pub taken_whole : (taped later : Taped) (more : List Change) → tape_of taped ≡ []
     → later ≡ record taped { pending = taped.pending ++ more } → tape_of later ≡ more
@@ -136,21 +142,12 @@ listed_whole taped later more before after none is some written =
     ap (λ (l : List Change). length_line (length l)) (taken_whole taped later more none is) ∙ lines_of_some more some in
     subst (λ (l : List ℕ). Appends before after l) line written
 
--- a board that has taken the opening changes of another shows the same
-opens_alike : (board next : Board) (taped : Taped) (sym_ : ℕ) → Opens board (tape_of taped) → taped.sizes ≡ board.sizes
-    → next ≡ fold after (opening taped.sizes) (tape_of taped) → sym_ < length board.sizes.lots → ShowAlike board next sym_
-opens_alike board next taped sym_ opens sizes is within =
-    subst (λ (b : Board). ShowAlike board b sym_) (sym (rw (← sizes) is)) (opens.alike sym_ within)
-
--- so does the board of a tape that took the opening changes, as they were read
-pub next_alike : (old begun fresh later : Taped) (board next : Board) (first all : List Change) → Opens board all → first ≡ all
-    → tape_of later ≡ first → board.sizes ≡ old.sizes → fresh.sizes ≡ old.sizes → begun ≡ fresh → later.sizes ≡ begun.sizes
-    → next ≡ fold after (opening later.sizes) (tape_of later)
+-- the board of a tape that took the opening changes of another board shows the same
+pub opens_alike : (board next : Board) (taped : Taped) (first : List Change) → Opens board first → tape_of taped ≡ first
+    → taped.sizes ≡ board.sizes → next ≡ fold after (opening taped.sizes) (tape_of taped)
     → (sym_ : ℕ) → sym_ < length board.sizes.lots → ShowAlike board next sym_
-next_alike old begun fresh later board next first all opens same taken sized fits is kept stands sym_ within =
-    let tape : tape_of later ≡ all = taken ∙ same in
-    let sizes : later.sizes ≡ board.sizes = kept ∙ ap (λ (t : Taped). t.sizes) is ∙ fits ∙ sym sized in
-    opens_alike board next later sym_ (subst (λ (l : List Change). Opens board l) (sym tape) opens) sizes stands within
+opens_alike board next taped first opens taken sizes stands sym_ within =
+    subst (λ (b : Board). ShowAlike board b sym_) (sym (rw (← sizes, ← taken) stands)) (opens.alike sym_ within)
 
 -- one more of the changes was appended
 pub added_more : (taped now later : Taped) (xs : List Change) (i : ℕ) (x : Change) → i < length xs → x ≡ get_or xs i x

@@ -1,2 +1,6 @@
+mod ChangeLines
 mod KeeperFacts
+mod LeftFacts
+mod LineFacts
 mod OpeningFacts
+mod ResumeFacts

@@ -6,6 +6,7 @@ use Rattle.nms_quote.specs.declared.change.Change.{Change}
 use Rattle.nms_quote.specs.declared.TheConstants.{MOST_CHANGES}
 use Rattle.nms_board.specs.Cells.{Board, after, opening}
 use Rattle.nms_change_text.specs.ChangeText.{changes_text}
+use Rattle.nms_lines.specs.Written.{AppendsPart}
 use Rattle.nms_versions.specs.Published.{changes, committed}
 use Rattle.nms_versions.specs.Taped.{Taped, tape_of}
 use Rattle.nms_serving.specs.Lengths.{length_line}
@@ -60,6 +61,18 @@ pub record IsWritten {X Y : Type 0} (tape_of_writer : X → Option (List ℕ)) (
   pub recorded : Appends (tape_of_writer old.tape) (tape_of_writer new.tape)
       (changes_text old.roster (drop old.published (tape_of new.publisher)))
   pub listed : Appends (lengths_of_writer old.lengths) (lengths_of_writer new.lengths) (length_line (length (tape_of new.publisher)))
+
+-- the text of the changes that wait
+abbrev pub unwritten : {X Y : Type 0} → Keeping X Y → List ℕ
+unwritten keeping = changes_text keeping.roster (drop keeping.published (tape_of keeping.publisher))
+
+-- what a failed writing leaves: a prefix of that text, and the lengths as they were; or all of it, and a prefix of the length
+abbrev pub LeavesPart : {X Y : Type 0} → (X → Option (List ℕ)) → (Y → Option (List ℕ)) → Keeping X Y → Keeping X Y → Type 0
+LeavesPart tape_of_writer lengths_of_writer old new =
+    (AppendsPart (tape_of_writer old.tape) (tape_of_writer new.tape) (unwritten old)
+    × Appends (lengths_of_writer old.lengths) (lengths_of_writer new.lengths) [])
+    ⊎ (Appends (tape_of_writer old.tape) (tape_of_writer new.tape) (unwritten old)
+    × AppendsPart (lengths_of_writer old.lengths) (lengths_of_writer new.lengths) (length_line (length (tape_of old.publisher))))
 
 -- a change is not taken: it is not of the roster, or the tape has as many changes as it may
 abbrev pub IsRefused : Taped → Change → Type 0

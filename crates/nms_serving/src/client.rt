@@ -3,13 +3,16 @@ ghost use Rattle.std.specs.Prelude.{◌≡◌};
 ghost use Rattle.nms_quote.specs.Roster.{sizes_of};
 
 use crate::door::Door;
+use crate::ending::Ending;
 use crate::guarded::Guarded;
 use crate::named::Named;
 use crate::report::ClientNotice;
+use crate::routers::{Paths, answer_routers};
 use crate::run::Run;
 use crate::serve_fault::ServeFault;
 use crate::serving::Means;
 use crate::stream::Stream;
+use crate::tally::Tally;
 use crate::text::Text;
 use nms_answers::{EpochDesk, LaterDesks, RequestCounts, answer_stream};
 use nms_versions::Desk;
@@ -42,24 +45,40 @@ pub struct ClientEnd {
     pub counts: Option<RequestCounts>,
 }
 
-/// Answers the requests of the client of this number, from 1, to the end of their stream. Its end is reported. A fault ends the
-/// run.
+/// A client of a run.
+#[derive(Drop)]
+pub(crate) struct Client<'a, L> {
+    /// Its number, from 1.
+    pub(crate) number: u8,
+    pub(crate) streams: &'a ClientStreams<'a>,
+    /// Where it finds its desks of later epochs.
+    pub(crate) later: L,
+    /// How many of its requests were answered.
+    pub(crate) tally: &'a Tally,
+}
+
+/// Answers the requests of a client to the end of their stream. If the run keeps FIFOs open, it answers one router after another, to
+/// the end of the run. Its end is reported. A fault ends the run.
 pub(crate) fn serve_client<R: Threads + Wait + Sync, L: LaterDesks>(
     means: &Means<'_, R>,
-    number: u8,
-    streams: &ClientStreams<'_>,
+    client: &Client<'_, L>,
     desk: Desk,
-    later: &L,
 ) -> ClientEnd
     requires house { L.sizes ≡ sizes_of means.now.run.now.setup.now.roster }
     requires sizes { desk.sizes ≡ sizes_of means.now.run.now.setup.now.roster }
 {
+    let (run, number) = (means.run, client.number);
     let mut desk = EpochDesk { epoch: 0, desk };
-    let counts = match answer_client(means, number, streams, &mut desk, later) {
+    let counts = match answer_client(means, client, &mut desk) {
         Ok(counts) => Some(counts),
         Err(fault) => {
-            means.run.fail(fault);
-            None
+            run.fail(fault);
+            // A run that was asked to end may break off any stream: that is no fault.
+            if run.is_failed() {
+                None
+            } else {
+                Some(client.tally.of_all())
+            }
         }
     };
     let end = ClientEnd { number, counts };
@@ -71,32 +90,31 @@ pub(crate) fn serve_client<R: Threads + Wait + Sync, L: LaterDesks>(
 /// Opens a client's streams, and answers its requests.
 fn answer_client<R: Threads + Wait + Sync, L: LaterDesks>(
     means: &Means<'_, R>,
-    number: u8,
-    streams: &ClientStreams<'_>,
+    client: &Client<'_, L>,
     desk: &mut EpochDesk,
-    later: &L,
 ) -> Result<RequestCounts, ServeFault>
     requires house { L.sizes ≡ sizes_of means.now.run.now.setup.now.roster }
     requires sizes { desk.old.desk.sizes ≡ sizes_of means.now.run.now.setup.now.roster }
 {
     let (host, run) = (means.host, means.run);
-    let (asks, told) = names_of(streams, number);
-    match streams {
+    let (asks, told) = names_of(client.streams, client.number);
+    match client.streams {
         ClientStreams::Standard => answer_from(
             means,
-            number,
+            client,
             desk,
-            later,
             Guarded::new(host.stdin(), run, asks),
             Guarded::new(host.stdout(), run, told),
         ),
         ClientStreams::Paths { input, output } => {
-            let (requests, answers) = open_both(means, number, input, output);
+            if run.ways.keep && input.is_fifo(host) {
+                return answer_routers(means, client, Paths { input, output }, desk);
+            }
+            let (requests, answers) = open_both(means, client.number, input, output);
             answer_from(
                 means,
-                number,
+                client,
                 desk,
-                later,
                 Guarded::new(requests?, run, asks),
                 Guarded::new(answers?, run, told),
             )
@@ -160,9 +178,8 @@ fn opened(
 /// Answers the requests of a stream, once they are no longer held.
 fn answer_from<R: Wait, S: Read + Drop, W: Write + Drop, L: LaterDesks>(
     means: &Means<'_, R>,
-    number: u8,
+    client: &Client<'_, L>,
     desk: &mut EpochDesk,
-    later: &L,
     requests: S,
     answers: W,
 ) -> Result<RequestCounts, ServeFault>
@@ -171,9 +188,19 @@ fn answer_from<R: Wait, S: Read + Drop, W: Write + Drop, L: LaterDesks>(
 {
     let run = means.run;
     run.pass_gate(means.rt);
+    client.tally.begin();
     let mut answers = answers;
-    match answer_stream(means.alloc, run.setup, desk, later, requests, &mut answers) {
+    let told = answer_stream(
+        means.alloc,
+        run.setup,
+        desk,
+        &client.later,
+        Ending::new(requests, run),
+        &mut answers,
+    );
+    client.tally.end();
+    match told {
         Ok(counts) => Ok(counts),
-        Err(fault) => Err(ServeFault::of_client(number, fault)),
+        Err(fault) => Err(ServeFault::of_client(client.number, fault)),
     }
 }

@@ -18,6 +18,9 @@ use std::{fs, io, thread};
 /// How long a thread that wakes another keeps a FIFO open, in seconds: the process ends before.
 const KEPT: u64 = 86_400;
 
+/// How long it leaves the answers in a FIFO to their reader, in milliseconds. This product's own rule.
+const LEFT: u64 = 600;
+
 /// The end of a FIFO that a thread of the run has.
 #[derive(Clone, Copy)]
 pub(crate) enum Side {
@@ -67,7 +70,7 @@ impl<'a> Door<'a> {
         fault
     }
 
-    /// Opens the path, unless a fault has ended the run.
+    /// Opens the path, unless the run ends.
     fn open(&self, files: &HostRuntime, run: &Run<'_>, how: &OpenOptions) -> io::Result<File> {
         if run.is_stopped() {
             return Err(io::Error::from(ErrorKind::BrokenPipe));
@@ -84,15 +87,52 @@ impl<'a> Door<'a> {
         alloc: Global,
         run: &Run<'_>,
     ) -> io::Result<Option<File>> {
-        let writer = match self.open(files, run, OpenOptions::new().read(true).write(true)) {
-            Ok(writer) => writer,
-            Err(error) if error.kind() == ErrorKind::NotFound => return Ok(None),
-            Err(error) => return Err(error),
-        };
-        let Ok(path) = format!(in alloc; "/proc/self/fd/{}", writer.as_raw_fd()) else {
-            return Err(io::Error::from(ErrorKind::OutOfMemory));
-        };
-        Ok(Some(Door::new(path.as_str()).open_to_read(files, run)?))
+        match self.open_if_there(files, run, OpenOptions::new().read(true).write(true))? {
+            Some(both) => {
+                let path = path_of_opened(alloc, &both)?;
+                Ok(Some(Door::new(path.as_str()).open_to_read(files, run)?))
+            }
+            None => Ok(None),
+        }
+    }
+
+    /// Opens the path to append to its file, and waits for no reader of a FIFO, as `open_anew` waits for no writer. `None` if the
+    /// path names nothing by now.
+    pub(crate) fn answer_anew(
+        &self,
+        files: &HostRuntime,
+        alloc: Global,
+        run: &Run<'_>,
+    ) -> io::Result<Option<File>> {
+        if !self.is_fifo(files) {
+            return self.open_if_there(files, run, OpenOptions::new().append(true));
+        }
+        match self.open_if_there(files, run, OpenOptions::new().read(true).write(true))? {
+            Some(both) => {
+                let path = path_of_opened(alloc, &both)?;
+                Ok(Some(Door::new(path.as_str()).open_to_write(files, run)?))
+            }
+            None => Ok(None),
+        }
+    }
+
+    /// Opens the path; `None` if it names nothing.
+    fn open_if_there(
+        &self,
+        files: &HostRuntime,
+        run: &Run<'_>,
+        how: &OpenOptions,
+    ) -> io::Result<Option<File>> {
+        match self.open(files, run, how) {
+            Ok(file) => Ok(Some(file)),
+            Err(error) if error.kind() == ErrorKind::NotFound => Ok(None),
+            Err(error) => Err(error),
+        }
+    }
+
+    /// Whether there is a FIFO at the path, or a pipe without a name.
+    pub(crate) fn is_fifo(&self, host: &HostRuntime) -> bool {
+        is_fifo(host, self.path)
     }
 
     /// Whether there is another FIFO now than the one that was opened: the old one was removed, and one was made again.
@@ -106,7 +146,7 @@ impl<'a> Door<'a> {
     /// Wakes the thread of the run that waits here at a FIFO, if one does. Another thread does that, and the process ends
     /// without waiting for it. It opens both ends of the FIFO, and writes a line feed or reads what is in it.
     pub(crate) fn wake<R: Threads>(&self, rt: &R, host: &HostRuntime, alloc: Global, side: Side) {
-        if !is_fifo(host, self.path) {
+        if !self.is_fifo(host) {
             return;
         }
         let Ok(path) = String::from_str(alloc, self.path) else {
@@ -114,6 +154,14 @@ impl<'a> Door<'a> {
         };
         let host = *host;
         let _left = thread::spawn(rt, move || keep_open(&host, path.as_str(), side));
+    }
+}
+
+/// A path by which an open file can be opened once more.
+fn path_of_opened(alloc: Global, opened: &File) -> io::Result<String> {
+    match format!(in alloc; "/proc/self/fd/{}", opened.as_raw_fd()) {
+        Ok(path) => Ok(path),
+        Err(_) => Err(io::Error::from(ErrorKind::OutOfMemory)),
     }
 }
 
@@ -143,7 +191,11 @@ fn keep_open(host: &HostRuntime, path: &str, side: Side) {
             let _woken = file.write(b"\n");
             thread::sleep(host, Duration::from_secs(KEPT));
         }
-        Side::Writes => take_all_bytes(&mut file),
+        Side::Writes => {
+            // A thread that waited for a reader goes on now. Answers that a router can still read are left to it meanwhile.
+            thread::sleep(host, Duration::from_millis(LEFT));
+            take_all_bytes(&mut file);
+        }
     }
 }
 

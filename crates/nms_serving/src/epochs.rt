@@ -53,14 +53,16 @@ pub(crate) struct Epochs<'a, H: House, X: Write, Y: Write> {
 }
 
 impl<'a, H: House, X: Write, Y: Write> Epochs<'a, H, X, Y> {
-    /// The first epoch.
-    pub(crate) fn new(keeper: Keeper<'a, X, Y>) -> Self
+    /// The epoch with which a run begins. All that its tape has by now are its opening changes.
+    pub(crate) fn new(keeper: Keeper<'a, X, Y>, epoch: u64) -> Self
         requires sizes { keeper.publisher.sizes ≡ H.sizes }
+        requires within { epoch ≤ MOST_EPOCHS }
     {
+        let opening = keeper.changes();
         Epochs {
             keeper,
-            epoch: 0,
-            opening: 0,
+            epoch,
+            opening,
             changes: 0,
             publishings: 0,
             of: PhantomData,
@@ -78,7 +80,7 @@ impl<'a, H: House, X: Write, Y: Write> Epochs<'a, H, X, Y> {
         self.publishings + self.keeper.publishings()
     }
 
-    /// How many epochs began after the first.
+    /// The number of the epoch.
     pub(crate) fn number(&self) -> u64 {
         self.epoch
     }
@@ -188,7 +190,7 @@ impl<'a, H: House, X: Write, Y: Write> Epochs<'a, H, X, Y> {
 }
 
 /// Lays each client's desk of an epoch in its slot. The desk knows what is published, so it shows nothing older.
-fn hand_over<R: Wait, H: House, X: Write, Y: Write>(
+pub(crate) fn hand_over<R: Wait, H: House, X: Write, Y: Write>(
     rt: &R,
     slots: &[Slot<H>],
     epoch: u64,

@@ -3,6 +3,7 @@ ghost use Rattle.std.specs.Prelude.{◌≡◌, []};
 ghost use Rattle.nms_feeds.specs.Streams.{IsCounted};
 
 use crate::door::{Door, is_open_fifo};
+use crate::ending::Ending;
 use crate::guarded::Guarded;
 use crate::report::FeedNotice;
 use crate::run::Run;
@@ -119,7 +120,7 @@ fn read_writer<R: Wait + Sync>(
         means.alloc,
         run.setup,
         run.ways.strict,
-        Guarded::new(file, run, door.named(Stream::Feed(feed))),
+        Ending::new(Guarded::new(file, run, door.named(Stream::Feed(feed))), run),
         watcher,
         counts,
         sender,

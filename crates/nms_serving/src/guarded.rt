@@ -10,8 +10,8 @@ use crate::serve_fault::ServeFault;
 use std::io;
 use std::io::{ErrorKind, Read, Write};
 
-/// A stream of a run. A read or a write that fails ends the run. After a fault has ended it, a reader is at its end, and a writer
-/// fails.
+/// A stream of a run. A read or a write that fails ends the run. When the run ends, a reader is at its end; if a fault ends it, a
+/// writer fails.
 #[derive(Drop)]
 pub struct Guarded<'a, F> {
     stream: F,
@@ -62,7 +62,7 @@ impl<F: Write> Write for Guarded<'_, F> {
     ghost contents = { λ guarded. F.contents (stream_of guarded) };
 
     fn write(&mut self, buf: &[u8]) -> io::Result<usize> {
-        if self.run.is_stopped() {
+        if self.run.is_failed() {
             return Err(io::Error::from(ErrorKind::BrokenPipe));
         }
         let written = self.stream.write(buf);

@@ -2,6 +2,7 @@
 ghost use Rattle.std.specs.Prelude.{◌≡◌, ◌<◌, IfSome};
 ghost use Rattle.nms_quote.specs.Roster.{sizes_of};
 
+use crate::tally::Tally;
 use nms_answers::{EpochDesk, LaterDesks};
 use std::marker::{Brand, PhantomData};
 use std::sync::atomic::{AtomicU64, Ordering};
@@ -67,6 +68,8 @@ pub(crate) struct Slot<H: House> {
     /// The latest epoch whose desk was laid here; 0 if none was.
     epoch: AtomicU64,
     desk: Mutex<Option<H>>,
+    /// How many requests of the client were answered.
+    pub(crate) tally: Tally,
 }
 
 impl<H: House> Slot<H> {
@@ -75,6 +78,7 @@ impl<H: House> Slot<H> {
         Slot {
             epoch: AtomicU64::new(0),
             desk: Mutex::new(None),
+            tally: Tally::new(),
         }
     }
 
@@ -116,5 +120,9 @@ impl<R: Wait, H: House> LaterDesks for SlotOf<'_, R, H> {
 
     fn later(&self, epoch: u64) -> Option<EpochDesk> {
         self.slot.take(self.rt, epoch)
+    }
+
+    fn note_answer(&self, refused: bool) {
+        self.slot.tally.add(refused);
     }
 }

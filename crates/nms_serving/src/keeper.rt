@@ -9,7 +9,7 @@ ghost use Rattle.nms_lines.specs.Written.{AppendsPart};
 ghost use Rattle.nms_opening.specs.Alike.{ShowAlike};
 ghost use Rattle.nms_opening.specs.Opening.{Opens};
 ghost use Rattle.nms_serving.specs.declared.TheConstants.{MOST_BATCH};
-ghost use Rattle.nms_serving.specs.Keeping.{IsKept, IsOfWriting, IsRefused, IsWritten, with_all_published, with_change, with_writers};
+ghost use Rattle.nms_serving.specs.Keeping.{IsKept, IsOfWriting, IsRefused, IsWritten, LeavesPart, with_all_published, with_change, with_writers};
 ghost use Rattle.nms_serving.specs.Lengths.{length_line, opening_lines};
 ghost use Rattle.nms_versions.specs.Published.{changes};
 ghost use Rattle.nms_versions.specs.Taped.{tape_of};
@@ -108,11 +108,11 @@ impl<'a, X: Write, Y: Write> Keeper<'a, X, Y> {
         }
     }
 
-    /// The keeper of the next epoch, over a tape that was just opened and its files. The new tape begins with the opening
-    /// changes of this board, which are written to its file and then published. So a look shows the same before and after.
+    /// The keeper of the next epoch, over a tape that was just opened and its files. It begins from this keeper's board
+    /// (`begin`): so a look shows the same before and after.
     ///
-    /// This keeper stays as it is, also at a fault: `NoMemory`, `TapeFull` if the new tape has no room for the opening changes,
-    /// or `NotWritten`. Then the publishing of the new tape has ended, and its files may have a prefix of a text.
+    /// This keeper stays as it is, also at a fault, which is one of `begin`. Then the publishing of the new tape has ended, and
+    /// its files may have a prefix of a text.
     pub fn next<R: Wait>(
         &self,
         alloc: Global,
@@ -136,24 +136,56 @@ impl<'a, X: Write, Y: Write> Keeper<'a, X, Y> {
         ensures listed { IfOk result (λ next. Appends (Y.contents lengths) (Y.contents next.lengths) (opening_lines (tape_of next.publisher))) }
         ensures alike { IfOk result (λ next. (sym : ℕ) → sym < length self.now.board.sizes.lots → ShowAlike self.now.board next.board sym) }
     {
-        let (Ok(changes), Ok(board)) = (
-            opening(alloc, &self.board),
-            Boards::new(alloc, self.roster),
-        ) else {
+        let Ok(empty) = Boards::new(alloc, self.roster) else {
             let _changes = publisher.close(rt);
             return Err(ServeFault::NoMemory);
         };
-        let mut next = Keeper::new(alloc, self.roster, publisher, board, tape, lengths);
-        match next.open_with(rt, &changes) {
-            Ok(()) => {
-                // Its count says that its board is the tape's.
-                let _kept = next.changes();
-                Ok(next)
-            }
+        let mut next = Keeper::new(alloc, self.roster, publisher, empty, tape, lengths);
+        match next.begin(alloc, rt, &self.board) {
+            Ok(()) => Ok(next),
             Err(fault) => {
                 next.end(rt);
                 Err(fault)
             }
+        }
+    }
+
+    /// Begins a tape that has no changes yet with the opening changes of a board: they are written to its file and then
+    /// published. So a look shows the same on that board and in the epoch: before and after a full tape, and before and after the
+    /// end of a process.
+    ///
+    /// `NoMemory`, `TapeFull` if the tape has no room for the opening changes, or `NotWritten`. Then end the keeper: its files may
+    /// have a prefix of a text.
+    #[tactic(auto, using(crate::proofs::KeeperFacts::none_published))]
+    pub fn begin<R: Wait>(
+        &mut self,
+        alloc: Global,
+        rt: &R,
+        board: &Boards,
+    ) -> Result<(), ServeFault>
+        requires empty { tape_of self.old.publisher ≡ [] }
+        requires sizes { self.old.publisher.sizes ≡ board.now.sizes }
+        ensures opening { OnOk result (self.new.publisher.opening ≡ self.old.publisher.opening) }
+        ensures sizes { OnOk result (self.new.publisher.sizes ≡ self.old.publisher.sizes) }
+        ensures roster { OnOk result (self.new.roster ≡ self.old.roster) }
+        ensures opens { OnOk result (Opens board.now (tape_of self.new.publisher)) }
+        ensures published { OnOk result (changes self.new.publisher.published ≡ tape_of self.new.publisher) }
+        ensures recorded { OnOk result (Appends (X.contents self.old.tape) (X.contents self.new.tape) (changes_text self.old.roster (tape_of self.new.publisher))) }
+        ensures listed { OnOk result (Appends (Y.contents self.old.lengths) (Y.contents self.new.lengths) (opening_lines (tape_of self.new.publisher))) }
+        ensures alike { OnOk result ((sym : ℕ) → sym < length board.now.sizes.lots → ShowAlike board.now self.new.board sym) }
+    {
+        // Its count says that nothing of an empty tape is published.
+        let _none = self.changes();
+        let Ok(first) = opening(alloc, board) else {
+            return Err(ServeFault::NoMemory);
+        };
+        match self.open_with(rt, &first) {
+            Ok(()) => {
+                // Its count says that its board is the tape's.
+                let _kept = self.changes();
+                Ok(())
+            }
+            Err(fault) => Err(fault),
         }
     }
 
@@ -282,7 +314,7 @@ impl<'a, X: Write, Y: Write> Keeper<'a, X, Y> {
     /// `waiting` returns how many there are.
     ///
     /// `NotWritten` if a writer fails, which may have taken a prefix, or `NoMemory`. Then the changes still wait, and no
-    /// desk sees them.
+    /// desk sees them. Unless the tape's file has all of the text, the other has nothing more.
     #[tactic(auto, using(crate::proofs::KeeperFacts::stands_still, crate::proofs::KeeperFacts::as_long_published))]
     pub fn publish<R: Wait>(&mut self, rt: &R) -> Result<(), ServeFault>
         requires some { self.old.published < length (tape_of self.old.publisher) }
@@ -292,6 +324,7 @@ impl<'a, X: Write, Y: Write> Keeper<'a, X, Y> {
         ensures unpublished { OnErr result (self.new ≡ with_writers self.old self.new.tape self.new.lengths) }
         ensures recorded_part { OnErr result (AppendsPart (X.contents self.old.tape) (X.contents self.new.tape) (changes_text self.old.roster (drop self.old.published (tape_of self.old.publisher)))) }
         ensures listed_part { OnErr result (AppendsPart (Y.contents self.old.lengths) (Y.contents self.new.lengths) (length_line (length (tape_of self.old.publisher)))) }
+        ensures left { OnErr result (LeavesPart X.contents Y.contents self.old self.new) }
         ensures writes { IfErr result (λ fault. IsOfWriting fault) }
         ensures whole { OnOk result (self.new ≡ with_all_published self.old self.new.tape self.new.lengths) }
         ensures sizes { self.new.publisher.sizes ≡ self.old.publisher.sizes }
@@ -308,13 +341,14 @@ impl<'a, X: Write, Y: Write> Keeper<'a, X, Y> {
     }
 
     /// Writes the waiting changes to the tape's file, and the tape's length to the file beside it.
-    #[tactic(auto, using(crate::proofs::KeeperFacts::no_part, crate::proofs::KeeperFacts::whole_part))]
+    #[tactic(auto, using(crate::proofs::KeeperFacts::no_part, crate::proofs::KeeperFacts::whole_part, crate::proofs::KeeperFacts::leaves_first))]
     fn record(&mut self) -> Result<(), ServeFault>
         ensures same { self.new ≡ with_writers self.old self.new.tape self.new.lengths }
         ensures listed { OnOk result (Appends (Y.contents self.old.lengths) (Y.contents self.new.lengths) (length_line (length (tape_of self.old.publisher)))) }
         ensures recorded { OnOk result (Appends (X.contents self.old.tape) (X.contents self.new.tape) (changes_text self.old.roster (drop self.old.published (tape_of self.old.publisher)))) }
         ensures recorded_part { OnErr result (AppendsPart (X.contents self.old.tape) (X.contents self.new.tape) (changes_text self.old.roster (drop self.old.published (tape_of self.old.publisher)))) }
         ensures listed_part { OnErr result (AppendsPart (Y.contents self.old.lengths) (Y.contents self.new.lengths) (length_line (length (tape_of self.old.publisher)))) }
+        ensures left { OnErr result (LeavesPart X.contents Y.contents self.old self.new) }
         ensures writes { IfErr result (λ fault. IsOfWriting fault) }
     {
         let tape = self.publisher.tape();

@@ -4,6 +4,7 @@
 
 mod client;
 mod door;
+mod ending;
 mod epochs;
 mod feeding;
 mod guarded;
@@ -11,13 +12,19 @@ mod handover;
 mod keeper;
 mod named;
 mod report;
+mod resume_fault;
+mod resuming;
 mod room;
+mod router;
+mod routers;
 mod run;
 mod serve_fault;
 mod serving;
+mod signals;
 mod silence;
 mod stream;
 mod taking;
+mod tally;
 mod teller;
 mod text;
 mod voice;
@@ -26,6 +33,9 @@ mod watching;
 
 /// The most changes of a batch: the taker publishes after this number of changes, or when none is waiting. This product's own rule.
 pub const MOST_BATCH: u64 = 64;
+
+/// The exit status of a run that ended without a fault, and refused a record of a feed. This product's own rule.
+pub const REFUSED_STATUS: u8 = 6;
 
 /// The most epochs after the first: 2^32. This product's own rule.
 pub const MOST_EPOCHS: u64 = 1 << 32;
@@ -37,10 +47,12 @@ pub use feeding::FeedEnd;
 pub use guarded::Guarded;
 pub use keeper::Keeper;
 pub use named::Named;
+pub use resume_fault::ResumeFault;
+pub use resuming::{LeftBoard, left_board};
 pub use room::{has_room_for_epochs, least_tape_limit};
 pub use run::{Run, Ways};
 pub use serve_fault::ServeFault;
-pub use serving::{Means, Served, serve};
+pub use serving::{GoingOn, Means, Served, resume, serve};
 pub use silence::Notice;
 pub use stream::{Stream, letter_of};
 pub use taking::Doors;

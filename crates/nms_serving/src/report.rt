@@ -1,10 +1,12 @@
 //! The reports about a run while it goes on, each a line on standard error.
 use crate::client::ClientEnd;
 use crate::feeding::FeedEnd;
+use crate::serve_fault::ServeFault;
 use crate::silence::Notice;
 use crate::stream::letter_of;
 use crate::text::Text;
 use arrayvec::ArrayVec;
+use nms_answers::RequestCounts;
 use nms_lines::{ByteRecord, LineFault};
 use nms_quote::Feed;
 use std::io::Write;
@@ -119,6 +121,40 @@ impl fmt::Display for ClientNotice {
             }
             None => write!(f, "client {number}: not served to its end"),
         }
+    }
+}
+
+/// A router of a client has left.
+#[derive(Clone, Copy)]
+pub(crate) struct RouterNotice {
+    /// The client's number, from 1.
+    pub(crate) number: u8,
+    /// How many requests of the router were answered, and how many of them were refused.
+    pub(crate) counts: RequestCounts,
+}
+
+impl fmt::Display for RouterNotice {
+    fn fmt<W: fmt::Write>(&self, f: &mut fmt::Formatter<W>) -> fmt::Result {
+        let (number, requests, refused) = (self.number, self.counts.requests, self.counts.refused);
+        write!(
+            f,
+            "client {number}: its router has left: {requests} requests, {refused} refused"
+        )
+    }
+}
+
+/// A fault of a client's router, which ends no run.
+#[derive(Clone, Copy)]
+pub(crate) struct RouterFault {
+    /// The client's number, from 1.
+    pub(crate) number: u8,
+    /// The fault.
+    pub(crate) fault: ServeFault,
+}
+
+impl fmt::Display for RouterFault {
+    fn fmt<W: fmt::Write>(&self, f: &mut fmt::Formatter<W>) -> fmt::Result {
+        write!(f, "client {}: {}", self.number, self.fault)
     }
 }
 

@@ -19,7 +19,7 @@ use std::time::Duration;
 pub struct Ways {
     /// A refused record of a feed ends the run.
     pub strict: bool,
-    /// A feed's FIFO is read on after its writer left, until all clients have ended.
+    /// A FIFO of a feed is read on after its writer left, and a client's FIFOs after its router left.
     pub keep: bool,
     /// Requests are held until each feed has sent a change or ended.
     pub wait: bool,
@@ -27,8 +27,8 @@ pub struct Ways {
     pub stale: Option<u32>,
 }
 
-/// The state that all threads of a run share: the setup, how many streams are left, the state of each feed, the first fault,
-/// and the bell that wakes the taker. No proof rests on it.
+/// The state that all threads of a run share: the setup, how many streams are left, the state of each feed, and the first fault. No
+/// proof rests on it.
 #[derive(Drop)]
 pub struct Run<'a> {
     pub(crate) setup: &'a Setup,
@@ -46,9 +46,8 @@ pub struct Run<'a> {
     /// 0 while requests are held.
     gate: AtomicU64,
     fault: OnceLock<ServeFault>,
-    is_stopped: AtomicBool,
+    is_failed: AtomicBool,
     is_done: AtomicBool,
-    bell: Parker,
     /// Wakes the thread that looks for silent feeds.
     end_bell: Parker,
 }
@@ -68,9 +67,8 @@ impl<'a> Run<'a> {
             voices: Voices::new(),
             gate: AtomicU64::new(u64::from(!ways.wait)),
             fault: OnceLock::new(),
-            is_stopped: AtomicBool::new(false),
+            is_failed: AtomicBool::new(false),
             is_done: AtomicBool::new(false),
-            bell: Parker::new(),
             end_bell: Parker::new(),
         }
     }
@@ -106,19 +104,33 @@ impl<'a> Run<'a> {
         self.end_for(fault, Text::of(fault).and("a thread could not be started"));
     }
 
-    /// Ends the run for a fault, which is printed as this line if it is the first.
+    /// Ends the run for a fault, which is printed as this line if it is the first. A stream that breaks off since the run was asked
+    /// to end is no fault.
     fn end_for(&self, fault: ServeFault, line: Text) {
+        if self.is_asked() && fault.is_of_other_end() {
+            return;
+        }
         if self.fault.try_set(fault).is_ok() {
             self.teller.fail(fault.status(), line);
         }
-        self.is_stopped.store(true, Ordering::SeqCst);
+        self.is_failed.store(true, Ordering::SeqCst);
         self.open_gate();
-        self.bell.unpark();
+        self.teller.wake_taker();
     }
 
     /// Whether a fault ends the run.
+    pub(crate) fn is_failed(&self) -> bool {
+        self.is_failed.load(Ordering::SeqCst)
+    }
+
+    /// Whether the run was asked to end: what was taken is still published.
+    pub(crate) fn is_asked(&self) -> bool {
+        self.teller.is_asked()
+    }
+
+    /// Whether the run ends, for a fault or since it was asked to.
     pub(crate) fn is_stopped(&self) -> bool {
-        self.is_stopped.load(Ordering::SeqCst)
+        self.is_failed() || self.is_asked()
     }
 
     /// A feed begins.
@@ -137,7 +149,7 @@ impl<'a> Run<'a> {
     pub(crate) fn note_change(&self, feed: Feed) {
         self.voices.of(feed).speak();
         self.note_begun(feed);
-        self.bell.unpark();
+        self.teller.wake_taker();
     }
 
     /// A feed has sent a change, or ended.
@@ -163,7 +175,7 @@ impl<'a> Run<'a> {
     /// A feed or a client has ended.
     pub(crate) fn end_stream(&self) {
         self.left.fetch_sub(1, Ordering::SeqCst);
-        self.bell.unpark();
+        self.teller.wake_taker();
     }
 
     /// Whether all feeds and clients that began have ended.
@@ -171,7 +183,7 @@ impl<'a> Run<'a> {
         self.left.load(Ordering::SeqCst) == 0
     }
 
-    /// Whether no FIFO is read on after its writer left: all clients have ended, or a fault ends the run.
+    /// Whether no feed's FIFO is read on after its writer left: all clients have ended, or the run ends.
     pub(crate) fn is_closing(&self) -> bool {
         self.is_stopped() || self.clients.load(Ordering::SeqCst) == 0
     }
@@ -201,11 +213,6 @@ impl<'a> Run<'a> {
             self.gate.park(rt, 0);
         }
         unreachable!()
-    }
-
-    /// The taker sleeps until the bell rings, or returns at once if it rang since the last sleep.
-    pub(crate) fn sleep<R: Wait>(&self, rt: &R) {
-        self.bell.park(rt);
     }
 
     /// All feeds and clients have ended.

@@ -80,6 +80,23 @@ impl ServeFault {
         }
     }
 
+    /// Whether it is the fault of a stream that has another end: that of a feed or a client.
+    pub(crate) fn is_of_other_end(self) -> bool {
+        match self {
+            ServeFault::NotOpened(stream)
+            | ServeFault::NotRead(stream)
+            | ServeFault::NotWritten(stream)
+            | ServeFault::TooLong(stream) => stream.has_other_end(),
+            ServeFault::NoMemory
+            | ServeFault::Refused { .. }
+            | ServeFault::NotBegun
+            | ServeFault::TapeFull
+            | ServeFault::TooManyEpochs
+            | ServeFault::NotEmpty(_)
+            | ServeFault::NoReading(_) => false,
+        }
+    }
+
     /// The fault of a feed that was not read to its end.
     pub(crate) fn of_feed(feed: Feed, fault: FeedFault) -> Self
         ensures { result ≡ of_feed feed fault }

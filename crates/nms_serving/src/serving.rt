@@ -1,12 +1,13 @@
 //! The threads of a run: one for each feed and each client, and the caller's, which takes.
-ghost use Rattle.std.specs.Prelude.{◌≡◌, ◌<◌, ℕ, [], length, slice_index_or, IfErr};
+ghost use Rattle.std.specs.Prelude.{◌≡◌, ◌<◌, ◌≤◌, ℕ, [], length, slice_index_or, IfErr};
 ghost use Rattle.std.specs.List.{AllByRecursion};
 ghost use Rattle.nms_quote.specs.Roster.{sizes_of};
+ghost use Rattle.nms_serving.specs.declared.TheConstants.{MOST_EPOCHS};
 ghost use Rattle.nms_versions.specs.Taped.{Knowing, tape_of};
 
-use crate::client::{ClientEnd, ClientStreams, serve_client};
+use crate::client::{Client, ClientEnd, ClientStreams, serve_client};
 use crate::door::Door;
-use crate::epochs::{EpochFiles, Epochs, NextEpoch};
+use crate::epochs::{EpochFiles, Epochs, NextEpoch, hand_over};
 use crate::feeding::{FeedEnd, feed_all};
 use crate::handover::{House, HouseDesk, Sizing, Slot, SlotOf};
 use crate::keeper::Keeper;
@@ -46,6 +47,26 @@ pub(crate) struct Ends {
     desks: Vec<Desk>,
 }
 
+/// The epoch with which a run begins.
+struct FirstEpoch<'a, X: Write, Y: Write> {
+    keeper: Keeper<'a, X, Y>,
+    /// Its number.
+    epoch: u64,
+    /// A desk of it for each client, or more, if clients go over to it; they begin on it if there are none.
+    desks: Vec<Desk>,
+}
+
+/// What an earlier run has left, from which a run goes on.
+#[derive(Drop)]
+pub struct GoingOn<'a> {
+    /// The board of all that was published.
+    pub board: &'a Boards,
+    /// The epoch in which the run goes on: 1 or more.
+    pub epoch: u64,
+    /// What is reported of it, up to the number of its opening changes.
+    pub report: Text,
+}
+
 /// The results of a run's threads.
 #[derive(Drop)]
 pub struct Served {
@@ -57,7 +78,7 @@ pub struct Served {
     pub changes: u64,
     /// How often changes were published.
     pub publishings: u64,
-    /// How many epochs began after the first.
+    /// The number of the last epoch; that of the first one is 0.
     pub epochs: u64,
 }
 
@@ -94,10 +115,81 @@ pub fn serve<R: Threads + Wait + Sync, X: Write + Drop, Y: Write + Drop, F: Epoc
         taker,
         desks,
     };
-    serve_board::<Brand, R, X, Y, F>(means, doors, files, keeper, ends)
+    let first = FirstEpoch {
+        keeper,
+        epoch: 0,
+        desks: Vec::new(means.alloc),
+    };
+    serve_board::<Brand, R, X, Y, F>(means, doors, files, first, ends)
 }
 
-/// Serves feeds and clients on a board that was just opened.
+/// As `serve`, from the board that an earlier run has left (`left_board`). Its epoch's files are opened by `files`, and begin with
+/// the opening changes of the board, written and published (`Keeper::begin`). That is reported. Each client goes over to the epoch
+/// at its first request, as from an earlier one.
+///
+/// `NotBegun` if no board was opened; or the fault of the epoch's files, or of writing its opening changes.
+pub fn resume<R: Threads + Wait + Sync, X: Write + Drop, Y: Write + Drop, F: EpochFiles<X, Y>>(
+    means: &Means<'_, R>,
+    doors: &Doors<'_>,
+    left: GoingOn<'_>,
+    files: &F,
+) -> Result<Served, ServeFault>
+    requires sizes { left.board.now.sizes ≡ sizes_of means.now.run.now.setup.now.roster }
+    requires within { left.epoch ≤ MOST_EPOCHS }
+{
+    let setup = means.run.setup;
+    let GoingOn {
+        board,
+        epoch,
+        report,
+    } = left;
+    let Ok((senders, taker)) = open_lane(means.alloc, setup.queue(), setup.feeds()) else {
+        return Err(ServeFault::NotBegun);
+    };
+    let _limit = setup.tape_limit();
+    // On the desks of this one, which show nothing, the clients stand until they go over.
+    let Ok((ended, before)) = open_tape(means.alloc, means.rt, setup) else {
+        return Err(ServeFault::NotBegun);
+    };
+    let _none = ended.close(means.rt);
+    let Ok((publisher, desks)) = open_tape(means.alloc, means.rt, setup) else {
+        return Err(ServeFault::NotBegun);
+    };
+    let Ok(empty) = Boards::new(means.alloc, setup.roster()) else {
+        let _none = publisher.close(means.rt);
+        return Err(ServeFault::NotBegun);
+    };
+    let (tape, lengths) = match files.open(epoch) {
+        Ok(files) => files,
+        Err(fault) => {
+            let _none = publisher.close(means.rt);
+            return Err(fault);
+        }
+    };
+    let mut keeper = Keeper::new(means.alloc, setup.roster(), publisher, empty, tape, lengths);
+    match keeper.begin(means.alloc, means.rt, board) {
+        Ok(()) => {}
+        Err(fault) => {
+            keeper.end(means.rt);
+            return Err(fault);
+        }
+    }
+    let report = report.with(keeper.changes()).with(" opening changes");
+    means.run.teller.keep(means.rt, report);
+    let ends = Ends {
+        senders,
+        taker,
+        desks: before,
+    };
+    let first = FirstEpoch {
+        keeper,
+        epoch,
+        desks,
+    };
+    serve_board::<Brand, R, X, Y, F>(means, doors, files, first, ends)
+}
+
+/// Serves feeds and clients on a board that was just opened, from an epoch on.
 fn serve_board<
     B: Sizing + Send + Sync,
     R: Threads + Wait + Sync,
@@ -108,15 +200,23 @@ fn serve_board<
     means: &Means<'_, R>,
     doors: &Doors<'_>,
     files: &F,
-    keeper: Keeper<'_, X, Y>,
+    first: FirstEpoch<'_, X, Y>,
     ends: Ends,
 ) -> Result<Served, ServeFault>
     requires house { B.sizes ≡ sizes_of means.now.run.now.setup.now.roster }
-    requires keeper { keeper.publisher.sizes ≡ B.sizes }
+    requires keeper { first.keeper.publisher.sizes ≡ B.sizes }
+    requires within { first.epoch ≤ MOST_EPOCHS }
+    requires opening { (k : ℕ) (d : Knowing) → k < length first.desks.items → (slice_index_or first.desks.items k d).opening ≡ first.keeper.publisher.opening }
+    requires laid { (k : ℕ) (d : Knowing) → k < length first.desks.items → (slice_index_or first.desks.items k d).sizes ≡ B.sizes }
     requires fresh { AllByRecursion (λ sender. sender.sent ≡ []) ends.senders.items }
     requires sizes { (k : ℕ) (d : Knowing) → k < length ends.desks.items → (slice_index_or ends.desks.items k d).sizes ≡ sizes_of means.now.run.now.setup.now.roster }
     ensures begun { IfErr result (λ fault. fault ≡ ServeFault.NotBegun) }
 {
+    let FirstEpoch {
+        mut keeper,
+        epoch,
+        desks,
+    } = first;
     let slots: Vec<Slot<HouseDesk<B>>> = match slots_of(means.alloc, doors.clients.len()) {
         Ok(slots) => slots,
         Err(_) => {
@@ -128,7 +228,8 @@ fn serve_board<
         files,
         slots: &slots,
     };
-    let mut epochs = Epochs::new(keeper);
+    hand_over(means.rt, &slots, epoch, &mut keeper, desks);
+    let mut epochs = Epochs::new(keeper, epoch);
     let served = serve_epochs(means, doors, &next, &mut epochs, ends);
     epochs.end(means.rt);
     Ok(served)
@@ -284,18 +385,21 @@ fn start_clients<'s, E, H: House + Send, R: Threads + Wait + Sync>(
             return;
         };
         number = next;
-        let later = SlotOf { rt: means.rt, slot };
-        start_client(scope, means, number, streams, later, desk, handles);
+        let client = Client {
+            number,
+            streams,
+            later: SlotOf { rt: means.rt, slot },
+            tally: &slot.tally,
+        };
+        start_client(scope, means, client, desk, handles);
     }
 }
 
-/// Starts the thread of the client of this number.
+/// Starts the thread of a client.
 fn start_client<'s, E, L: LaterDesks + Send + Drop + 's, R: Threads + Wait + Sync>(
     scope: &'s Scope<'s, E>,
     means: &'s Means<'s, R>,
-    number: u8,
-    streams: &'s ClientStreams<'s>,
-    later: L,
+    client: Client<'s, L>,
     desk: Desk,
     handles: &mut Vec<JoinHandle<ClientEnd>>,
 )
@@ -308,7 +412,7 @@ fn start_client<'s, E, L: LaterDesks + Send + Drop + 's, R: Threads + Wait + Syn
         move || -> ClientEnd
             requires house { L.sizes ≡ sizes_of means.now.run.now.setup.now.roster }
             requires sizes { desk.sizes ≡ sizes_of means.now.run.now.setup.now.roster }
-        { serve_client(means, number, streams, desk, &later) },
+        { serve_client(means, &client, desk) },
     );
     keep(run, started.ok(), handles);
 }

@@ -20,6 +20,16 @@ pub enum Stream {
     Lengths,
 }
 
+impl Stream {
+    /// Whether another program has its other end: it is that of a feed or a client, and no file of the tape.
+    pub(crate) fn has_other_end(self) -> bool {
+        match self {
+            Stream::Feed(_) | Stream::Requests(_) | Stream::Answers(_) => true,
+            Stream::Tape | Stream::Lengths => false,
+        }
+    }
+}
+
 impl fmt::Display for Stream {
     fn fmt<W: fmt::Write>(&self, f: &mut fmt::Formatter<W>) -> fmt::Result {
         match self {

@@ -49,6 +49,7 @@ pub(crate) fn take_all<
             run.open_gate();
         }
         if run.is_stopped() && !are_woken {
+            run.open_gate();
             wake_all(means, doors);
             are_woken = true;
         }
@@ -59,7 +60,7 @@ pub(crate) fn take_all<
         if is_over {
             return;
         }
-        run.sleep(means.rt);
+        run.teller.let_taker_sleep(means.rt);
     }
     unreachable!()
 }
@@ -93,7 +94,7 @@ fn take_one<R: Wait, X: Write + Drop, Y: Write + Drop, F: EpochFiles<X, Y>, H: H
     let Some(change) = taker.take(means.rt) else {
         return false;
     };
-    if !means.run.is_stopped() {
+    if !means.run.is_failed() {
         match epochs.take_in(means, next, &change) {
             Ok(()) => {}
             Err(fault) => means.run.fail(fault),
@@ -107,7 +108,7 @@ fn publish<R: Wait, X: Write, Y: Write, H: House>(
     means: &Means<'_, R>,
     epochs: &mut Epochs<'_, H, X, Y>,
 ) {
-    if means.run.is_stopped() {
+    if means.run.is_failed() {
         return;
     }
     match epochs.publish(means.rt) {

@@ -1,5 +1,7 @@
 //! How a run reports what happens, and how the process learns that it may end.
+use crate::REFUSED_STATUS;
 use crate::report::Dropped;
+use crate::signals::Signals;
 use crate::text::Text;
 use crossbeam_queue::ArrayQueue;
 use std::alloc::{AllocError, Global};
@@ -20,6 +22,8 @@ const MOST_KEPT: usize = 384;
 const LOOKS: u32 = 200;
 
 const REST: u64 = 5;
+/// How long the process rests between two looks for a signal, in milliseconds. This product's own rule.
+const SIGNAL_REST: u64 = 200;
 
 /// The lines that a run prints on standard error, and its exit status. One thread prints: no other waits for standard error.
 /// Another waits for the status, and ends the process at most a second later, whatever does not end by then.
@@ -40,6 +44,12 @@ pub struct Teller {
     is_over: AtomicBool,
     /// Wakes the thread that waits for the status.
     end_bell: Parker,
+    /// The run was asked to end.
+    is_asked: AtomicBool,
+    /// A record of a feed was refused.
+    has_refused: AtomicBool,
+    /// Wakes the thread that takes.
+    taker_bell: Parker,
 }
 
 impl Teller {
@@ -55,6 +65,9 @@ impl Teller {
             status: OnceLock::new(),
             is_over: AtomicBool::new(false),
             end_bell: Parker::new(),
+            is_asked: AtomicBool::new(false),
+            has_refused: AtomicBool::new(false),
+            taker_bell: Parker::new(),
         })
     }
 
@@ -91,6 +104,43 @@ impl Teller {
     pub fn end(&self, status: u8) {
         self.is_over.store(true, Ordering::SeqCst);
         self.set_status(status);
+    }
+
+    /// A record of a feed was refused.
+    pub(crate) fn note_refused(&self) {
+        if !self.has_refused.load(Ordering::SeqCst) {
+            self.has_refused.store(true, Ordering::SeqCst);
+        }
+    }
+
+    /// The exit status, if no fault has ended the run.
+    fn good_status(&self) -> u8 {
+        if self.has_refused.load(Ordering::SeqCst) {
+            REFUSED_STATUS
+        } else {
+            0
+        }
+    }
+
+    /// Asks the run to end.
+    fn ask(&self) {
+        self.is_asked.store(true, Ordering::SeqCst);
+        self.wake_taker();
+    }
+
+    /// Whether the run was asked to end.
+    pub(crate) fn is_asked(&self) -> bool {
+        self.is_asked.load(Ordering::SeqCst)
+    }
+
+    /// There is something for the taker to do.
+    pub(crate) fn wake_taker(&self) {
+        self.taker_bell.unpark();
+    }
+
+    /// The taker sleeps until it is woken, or returns at once if it was woken since the last sleep.
+    pub(crate) fn let_taker_sleep<R: Wait>(&self, rt: &R) {
+        self.taker_bell.park(rt);
     }
 
     /// Gives the process its status, unless it has one.
@@ -135,16 +185,31 @@ impl Teller {
     }
 
     /// Waits until the run has a status, and returns it. All lines were printed and all threads have ended by then, or a second
-    /// has passed since.
+    /// has passed since. If the process blocks the signals that ask it to end, the run is asked to end when one comes: all has
+    /// ended by then, or a second has passed since.
     pub fn wait_for_end<R: Wait>(&self, rt: &R, host: &HostRuntime) -> u8 {
+        let signals = Signals::of_process(host);
         for _ in rt.forever() {
-            if let Some(status) = self.status.get() {
-                self.give_grace(host);
-                return *status;
+            if self.status.get().is_none() && signals.has_come(host) {
+                self.ask();
             }
-            self.end_bell.park(rt);
+            if self.status.get().is_some() || self.is_asked() {
+                self.give_grace(host);
+                return self.status.get().copied().unwrap_or(self.good_status());
+            }
+            self.rest(rt, signals);
         }
         unreachable!()
+    }
+
+    /// Sleeps until the run has a status. If a signal can come, no longer than until the next look for one.
+    fn rest<R: Wait>(&self, rt: &R, signals: Signals) {
+        if signals.can_come() {
+            self.end_bell
+                .park_timeout(rt, Duration::from_millis(SIGNAL_REST));
+        } else {
+            self.end_bell.park(rt);
+        }
     }
 
     /// Waits until all lines are printed and all threads have ended, for a second at most.

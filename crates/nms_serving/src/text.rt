@@ -38,8 +38,12 @@ impl Text {
 
     /// With a colon, and bytes of a file or of the call as they are safe to show.
     pub fn and_shown(self, shown: &[u8]) -> Self {
+        self.with(": ").with_shown(shown)
+    }
+
+    /// With such bytes.
+    pub fn with_shown(self, shown: &[u8]) -> Self {
         let Text { mut bytes } = self;
-        let _whole = bytes.write_all(b": ");
         let _whole = write_shown(&mut bytes, shown);
         Text { bytes }
     }

@@ -70,6 +70,7 @@ impl<R: Wait + Sync> FeedWatch for Watcher<'_, R> {
 
     fn refused(&self, feed: Feed, number: u64, fault: LineFault, record: &ByteRecord) {
         self.run.voices.of(feed).speak();
+        self.run.teller.note_refused();
         if self.may_report() {
             self.run
                 .teller

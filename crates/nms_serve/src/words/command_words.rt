@@ -87,6 +87,7 @@ fn request_in(alloc: Global, matches: &ArgMatches<'_>) -> Result<Request, WordsF
         keep: is_flagged(matches, "keep"),
         wait: is_flagged(matches, "wait"),
         stale,
+        resume: is_flagged(matches, "resume"),
     })
 }
 

@@ -14,8 +14,12 @@ output. Beside the tape's file, FILE.published has its length at each publishing
 When the tape has as many changes as the setup's tape_limit, an epoch begins: its tape
 is FILE.1, then FILE.2 and so on, and EPOCH,1 stands before a client's first answer there.
 
-With --keep a feed's FIFO is at its end when its writer has left and all clients
-have ended: until then it waits for its next writer.
+FILE.setup has the setup's text. With --resume the run goes on after whatever end of an
+earlier one: under the same setup, in the next epoch, from the board published last.
+
+With --keep the FIFOs of feeds and clients are read on after their other ends left, and
+a client's fault ends its connection alone. A signal ends the run: TERM and INT end it
+cleanly, if they are blocked when it starts, as ./nms_serve does.
 
 Requests, one a line, as in scripts:
   N,DESK,SYM                                 the best bid and offer

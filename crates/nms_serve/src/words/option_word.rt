@@ -14,7 +14,7 @@ pub(crate) struct OptionWord {
 }
 
 /// The options, in the order in which the help has them.
-pub(crate) static OPTIONS: [OptionWord; 8] = [
+pub(crate) static OPTIONS: [OptionWord; 9] = [
     OptionWord {
         name: "setup",
         values: &["FILE"],
@@ -55,7 +55,7 @@ pub(crate) static OPTIONS: [OptionWord; 8] = [
         values: &[],
         action: Some(ArgAction::SetTrue),
         required: false,
-        help: "Reads a feed's FIFO on after its writer left, until all clients have ended",
+        help: "Reads the FIFOs of feeds and clients on after their other ends left",
     },
     OptionWord {
         name: "wait",
@@ -70,5 +70,12 @@ pub(crate) static OPTIONS: [OptionWord; 8] = [
         action: None,
         required: false,
         help: "Warns on standard error of a feed without a record for that long, 1 to 86400",
+    },
+    OptionWord {
+        name: "resume",
+        values: &[],
+        action: Some(ArgAction::SetTrue),
+        required: false,
+        help: "Goes on with the tape that an earlier run has left, if there is one",
     },
 ];

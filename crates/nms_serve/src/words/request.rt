@@ -14,12 +14,14 @@ pub struct Request {
     pub tape: String,
     /// Whether a refused record of a feed ends the run.
     pub strict: bool,
-    /// Whether a feed's FIFO is read on after its writer left.
+    /// Whether FIFOs of feeds and clients are read on after their other ends left.
     pub keep: bool,
     /// Whether requests are held until each feed has sent a change or ended.
     pub wait: bool,
     /// The seconds that `--stale` names, from 1 to 86,400.
     pub stale: Option<u32>,
+    /// Whether the run goes on with the tape of an earlier one.
+    pub resume: bool,
 }
 
 /// A feed's stream.

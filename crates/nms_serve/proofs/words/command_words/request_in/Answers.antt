@@ -88,4 +88,5 @@ returns-clause-read c =
       keep = c.is_flagged-2.ensures;
       wait = c.is_flagged-3.ensures;
       stale = sym (c.in-Some.ensures ∙ ap stale_of c.first_value-2.ensures);
+      resume = c.is_flagged-4.ensures;
     }

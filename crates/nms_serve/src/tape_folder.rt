@@ -1,0 +1,120 @@
+//! The files of a tape in its folder: FILE.setup, FILE and FILE.published, then FILE.1 and FILE.1.published, and so on.
+use crate::program_fault::ProgramFault;
+use crate::refusal::Refusal;
+use nms_serving::{MOST_EPOCHS, Stream};
+use std::alloc::Global;
+use std::io::ErrorKind;
+use std::os::unix::fs::FileTypeExt;
+use std::{fs, io};
+
+/// The end of the name of a file of lengths.
+pub(crate) const PUBLISHED: &str = ".published";
+/// The end of the name of the file with the setup's text.
+pub(crate) const SETUP: &str = ".setup";
+
+/// Which file of a tape a name is.
+#[derive(Clone, Copy, Debug, PartialEq, Eq)]
+pub(crate) enum Part {
+    /// That of its setup.
+    Setup,
+    /// One of an epoch's two.
+    Epoch(u64),
+    /// It has a number that is no epoch's.
+    NoEpoch,
+}
+
+/// A file of a tape.
+#[derive(Drop)]
+pub(crate) struct TapeFile {
+    pub(crate) path: String,
+    pub(crate) part: Part,
+}
+
+/// The files of a tape that are there, of any epoch. The names in its folder are looked through.
+pub(crate) fn files_of_tape(
+    host: &HostRuntime,
+    alloc: Global,
+    path: &str,
+) -> Result<Vec<TapeFile>, Refusal> {
+    let (folder, base) = parts_of(path);
+    let listing = match fs::read_dir(host, if folder.is_empty() { "." } else { folder }) {
+        Ok(listing) => listing,
+        Err(error) => return Err(Refusal::of_stream(Stream::Tape, path, &error)),
+    };
+    let mut files = Vec::new(alloc);
+    for entry in listing {
+        let entry = match entry {
+            Ok(entry) => entry,
+            // A name that is not UTF-8 is none of the tape's.
+            Err(error) if error.kind() == ErrorKind::InvalidFilename => continue,
+            Err(error) => return Err(Refusal::of_stream(Stream::Tape, path, &error)),
+        };
+        let name = entry.file_name();
+        if let Some(part) = part_of(base, name) {
+            let Ok(path) = format!(in alloc; "{folder}{name}") else {
+                return Err(Refusal::no_memory());
+            };
+            if files.push(TapeFile { path, part }).is_err() {
+                return Err(Refusal::no_memory());
+            }
+        }
+    }
+    Ok(files)
+}
+
+/// Refuses a tape of which there is a file. A FIFO or a device may be there, since it holds nothing.
+pub(crate) fn refuse_files(host: &HostRuntime, files: &[TapeFile]) -> Result<(), Refusal> {
+    for file in files {
+        if !is_device(fs::metadata(host, file.path.as_str())) {
+            return Err(Refusal::at(ProgramFault::TapeThere, file.path.as_str()));
+        }
+    }
+    Ok(())
+}
+
+/// Whether what was found is a FIFO or a character device.
+pub(crate) fn is_device(found: io::Result<fs::Metadata>) -> bool {
+    match found {
+        Ok(found) => found.file_type().is_fifo() || found.file_type().is_char_device(),
+        Err(_) => false,
+    }
+}
+
+/// The folder of a path with its last slash, and the name in it.
+fn parts_of(path: &str) -> (&str, &str) {
+    let Some((_, base)) = path.rsplit_once('/') else {
+        return ("", path);
+    };
+    match path.strip_suffix(base) {
+        Some(folder) => (folder, base),
+        None => ("", path),
+    }
+}
+
+/// Which file of a tape a name is, if it is one.
+fn part_of(base: &str, name: &str) -> Option<Part> {
+    let rest = name.strip_prefix(base)?;
+    if rest == SETUP {
+        return Some(Part::Setup);
+    }
+    let number = rest.strip_suffix(PUBLISHED).unwrap_or(rest);
+    if number.is_empty() {
+        return Some(Part::Epoch(0));
+    }
+    let digits = number.strip_prefix('.')?;
+    if digits.is_empty() || !digits.bytes().all(|byte| byte.is_ascii_digit()) {
+        return None;
+    }
+    Some(epoch_of(digits))
+}
+
+/// The epoch after the first that is written in digits.
+fn epoch_of(digits: &str) -> Part {
+    if digits.starts_with('0') {
+        return Part::NoEpoch;
+    }
+    match digits.parse::<u64>() {
+        Ok(epoch) if epoch <= MOST_EPOCHS => Part::Epoch(epoch),
+        Ok(_) | Err(_) => Part::NoEpoch,
+    }
+}

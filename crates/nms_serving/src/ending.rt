@@ -1,0 +1,28 @@
+//! A stream whose reader ends with the run, and not as at the stream's own end.
+use crate::run::Run;
+use std::io;
+use std::io::{ErrorKind, Read};
+
+/// A stream of a run. After the run was asked to end it fails where it would be at its end: so what was begun of a line is dropped,
+/// and not refused.
+#[derive(Drop)]
+pub(crate) struct Ending<'a, F> {
+    stream: F,
+    run: &'a Run<'a>,
+}
+
+impl<'a, F> Ending<'a, F> {
+    /// Over a stream of the run.
+    pub(crate) fn new(stream: F, run: &'a Run<'a>) -> Self {
+        Ending { stream, run }
+    }
+}
+
+impl<F: Read> Read for Ending<'_, F> {
+    fn read(&mut self, buf: &mut [u8]) -> io::Result<usize> {
+        match self.stream.read(buf) {
+            Ok(0) if self.run.is_asked() => Err(io::Error::from(ErrorKind::BrokenPipe)),
+            read => read,
+        }
+    }
+}

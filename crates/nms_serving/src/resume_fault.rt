@@ -1,0 +1,38 @@
+//! Why an epoch's files can't be gone on with.
+use nms_files::ChangesFault;
+use std::fmt;
+use thiserror::Error;
+
+/// Why the two files of an epoch are not what the end of a process leaves of them, or not under this setup.
+#[derive(Clone, Copy, Debug, PartialEq, Eq, Error)]
+pub enum ResumeFault {
+    /// A line of the lengths is no length, or is no more than the one before it.
+    BadLengths,
+    /// The tape has fewer lines than its last length says.
+    ShortTape,
+    /// More lines begin after the last length than may be written and not published.
+    TooMuch,
+    /// Lines of the tape are blank, or several make one record.
+    NotLines,
+    /// The setup refuses a record of the tape, or has no room for it.
+    Refused(ChangesFault),
+    /// Out of memory.
+    NoMemory,
+}
+
+impl fmt::Display for ResumeFault {
+    fn fmt<W: fmt::Write>(&self, f: &mut fmt::Formatter<W>) -> fmt::Result {
+        match self {
+            ResumeFault::BadLengths => f.write_str(
+                "a line of its lengths is none that a run writes",
+            ),
+            ResumeFault::ShortTape => f.write_str("it has fewer changes than its lengths say"),
+            ResumeFault::TooMuch => {
+                f.write_str("more changes are after its last length than a run leaves")
+            }
+            ResumeFault::NotLines => f.write_str("its records are not one a line"),
+            ResumeFault::Refused(fault) => write!(f, "this setup refuses a record of it: {fault}"),
+            ResumeFault::NoMemory => f.write_str("E4: out of memory"),
+        }
+    }
+}
