@@ -22,6 +22,7 @@ import ctypes
 import functools
 import importlib.machinery
 import importlib.util
+import inspect
 import os
 import queue
 import re
@@ -228,13 +229,21 @@ class Toolchain:
             self.known[folder] = self.rtlib.Crate(folder, TOP, self.known)
         return self.known[folder]
 
+    def crates_in(self, room):
+        """The crates of a folder as `rt ci` has them. The command of some toolchains would set aside what was built there, so they
+        are only listed then."""
+        if len(inspect.signature(self.rt.crates_of).parameters) == 1:
+            return self.rt.crates_of(room)
+        self.rtlib.Crate = self.rt.Crate
+        return self.rtlib.crates_below(room)
+
     def prove_archive(self, room, to):
         """Proves the library's crate over the libraries of a folder, held to the verdict that `rt ci` holds a crate to, and
         builds its archive. Gives whether it is proved, and the report."""
         # (its first call is for the main thread)
         self.rtlib.guarded()
         self.rt.Crate.allowed = self.rt.handles_of(room)
-        crate = next(it for it in self.rt.crates_of(room) if it.name == ARCHIVE)
+        crate = next(it for it in self.crates_in(room) if it.name == ARCHIVE)
         crate.is_static = True
         words = [*crate.words(["--jobs", "1"], keeps=False), "--toolchain", f"{self.folder}/toolchain", "--backend", "llvm", "-o", to]
         with tempfile.TemporaryFile("w+", errors="replace") as crate.out:

@@ -7,7 +7,6 @@ It reads the pages (README.md, CHANGELOG.md, docs/, examples/README.md, tests/RE
 proves and builds nothing. Each part below says what it looks at. It writes a line for each difference, and last `N passed,
 M failed`; status 1 where one failed.
 """
-import itertools
 import os
 import re
 import shutil
@@ -28,7 +27,9 @@ import join
 PAGE_TEXT = "crates/nms_drawing/src/page_text.rt"
 
 # Lines and words of the front page, and words of a sentence there.
-MOST_LINES, MOST_FRONT, MOST_WORDS = 130, 1600, 25
+MOST_LINES, MOST_FRONT, MOST_WORDS = 130, 900, 25
+# How often a word of this repository's own dialect may be in all pages together.
+MOST_DIALECT = 5
 # Columns of a definition or a proof.
 MOST_COLUMNS = 148
 # The limits in README.md: the constant of the sources, and what it counts.
@@ -112,6 +113,9 @@ def codes_of_sources():
 
 CODES = codes_of_sources()
 FAMILIES = {it[0] for it in CODES}
+# What a program says to do about codes: the codes of an arm, and the text without its backquotes.
+REMEDIES = [(arm, text.replace('\\"', '"').replace("`", "")) for arm, text in
+            re.findall(r'((?:Code::\w+[\s|]*)+)=>\s*{?\s*"((?:[^"\\]|\\.)+)"', read("crates/nms_codes/src/remedies.rt"))]
 COUNT = {"passed": 0, "failed": 0}
 
 
@@ -244,12 +248,11 @@ def check_remedies():
         code = row[CELLS][0]
         said[code] = said.get(code, "") + re.sub(r"\[([^]]*)\]\([^)]*\)", r"\1", row[CELLS][-1])
         out_of_memory |= {code} if "`NoMemory`" in row[CELLS][1] else set()
-    for arm, text in re.findall(r'((?:Code::\w+[\s|]*)+)=>\s*{?\s*"((?:[^"\\]|\\.)+)"', read("crates/nms_codes/src/remedies.rt")):
-        remedy = text.replace('\\"', '"').replace("`", "").lower()
+    for arm, remedy in REMEDIES:
         for code in sorted(set(re.findall(r"Code::([A-Z]\d+)\b", arm)) - out_of_memory):
             told = said.get(code, "")
             told += said.get((re.findall(r"As ([A-Z]\d+)", told) or [""])[0], "")
-            check(remedy in told.replace("`", "").lower(), page, f"{code}: `nms_codes` has: {text}")
+            check(remedy.lower() in told.replace("`", "").lower(), page, f"{code}: `nms_codes` has: {remedy}")
 
 
 def reviewed_statuses():
@@ -305,11 +308,7 @@ def check_links():
 # What is made of the sources.
 
 def check_made():
-    """The words of ARCHITECTURE.md, what CLAIMS.md shows of docs/claims.py, the keys of IMPORT.md, the picture of the crates and the page's text are as the sources have them."""
-    page = claims.PAGE
-    there, wanted = read(page).split("\n"), claims.made().split("\n")
-    differing = next((old for old, new in itertools.zip_longest(there, wanted) if old != new), "")
-    check(there == wanted, page, f"docs/claims.py --words writes it otherwise, from this line on: {differing!r}")
+    """What CLAIMS.md shows of docs/claims.py, the keys of IMPORT.md, the picture of the crates and the page's text are as the sources have them."""
     page = "docs/CLAIMS.md"
     shown = [text for _, text in blocks(page)]
     check(shown == [claims.printed(re.match("## (.*)", it)[1]) for it in shown], page, "docs/claims.py prints another block")
@@ -366,13 +365,21 @@ def sentences(text):
             yield from re.split(r"(?<=[.?!;])[*]*\s+(?=[^a-z]|$)", plain)
 
 
+def words_of(text):
+    """The words of a text, without the bars of its tables."""
+    return [it for it in text.split() if re.search(r"\w", it)]
+
+
 def check_front():
-    """README.md is short; its sentences are; its blocks are files of examples/, and so are those of CALLING.md with no language."""
+    """README.md is short; its sentences are; its example is that of examples/. The blocks of CALLING.md with no language are files there."""
     page = "README.md"
     lines = read(page).count("\n")
     check(lines <= MOST_LINES, page, f"{lines} lines, and at most {MOST_LINES} are wanted")
-    words = len(read(page).split())
+    words = len(words_of(prose(page)))
     check(words <= MOST_FRONT, page, f"{words} words, and at most {MOST_FRONT} are wanted")
+    for head, file in (("Input", "examples/sweep.script"), ("Output", "examples/sweep.out")):
+        shown = [SPAN.findall(row[head])[0] for row in rows(prose(page)) if head in row]
+        check(shown == read(file).splitlines(), page, f"its table `{head}` is not {file}")
     for sentence in sentences(prose(page)):
         count = len(re.findall(r"[\w`][\w`.,:/()'-]*", sentence))
         check(count <= MOST_WORDS, page, f"a sentence of {count} words: {sentence[:60]}..")
@@ -383,9 +390,7 @@ def check_front():
 
 
 def check_twice():
-    """The headline, speeds, limits and numbers of edits and of lines are said alike; a block of a language is text of a source."""
-    headline = [re.findall(r"^> \**(.*?)\**$", read(it), re.M)[0] for it in ("README.md", "docs/HEADLINE.md")]
-    check(headline[0] == headline[1], "README.md", "the headline is not that of docs/HEADLINE.md")
+    """Speeds, limits and numbers of edits and of lines are said alike; a block of a language is text of a source."""
     number = r"\b\d{1,3}(?:,\d{3})+\b|\b\d\.\d+\b"
     for fast in re.findall(number, sections("README.md", 2)["Speed"]):
         check(fast in read("docs/PERFORMANCE.md"), "README.md", f"{fast} does not stand in docs/PERFORMANCE.md")
@@ -430,15 +435,31 @@ def check_kit():
         check(kit.rstrip(string.ascii_lowercase) in named, page, f"it names {named}, and `rt version` prints {kit}")
 
 
+def plain(page, allowed):
+    """The words of a page that may be others: no headline, no case's title, no remedy that a program prints, nothing in backquotes,
+    none of the phrases that are right."""
+    text = re.sub(r"^> .*$", "", prose(page), flags=re.M)
+    for _, remedy in REMEDIES:
+        text = re.sub("`?".join(["", *map(re.escape, remedy), ""]), "", text, flags=re.I)
+    text = re.sub(r"\]\([^)]*\)", "]", re.sub(r"`[^`\n]+`", "_", text))
+    for right in sorted((*allowed, *re.findall(r"^== \w+ (.+)$", TITLES, re.M)), key=len, reverse=True):
+        text = text.replace(right, "")
+    return text
+
+
 def check_plain():
-    """The pages have none of the words of docs/words_to_avoid.txt. The headline and what is made of the sources are left out."""
+    """The pages have none of the words of docs/words_to_avoid.txt, and those of its dialect at most five times in all of them."""
     lines = [it for it in read("docs/words_to_avoid.txt").split("\n") if it and not it.startswith("#")]
     allowed = [it[1:].strip() for it in lines if it.startswith("+")]
-    listed = [it.split(": ", 1) for it in lines if not it.startswith("+")]
-    for page in PAGES:
-        text = re.sub(r"^> .*$", "", claims.MADE.sub("", prose(page)), flags=re.M)
-        for right in allowed:
-            text = text.replace(right, "")
+    listed = [it.split(": ", 1) for it in lines if it[0] not in "+~"]
+    texts = {page: plain(page, allowed) for page in PAGES}
+    for words, better in (it[1:].strip().split(": ", 1) for it in lines if it.startswith("~")):
+        # A word with a capital letter is one that begins a sentence.
+        pattern = "|".join(map(re.escape, words.split(", ")))
+        found = [(page, sentence) for page, text in texts.items() for sentence in sentences(text)
+                 for _ in (re.findall(rf"\b(?:{pattern})\b", sentence, re.I) if words.islower() else re.findall(rf"^\W*(?:{pattern})\b", sentence))]
+        check(len(found) <= MOST_DIALECT, "the pages", f"`{words}` {len(found)} times, better `{better}`: " + "; ".join(f"{page}: {it[:60]}" for page, it in found))
+    for page, text in texts.items():
         for word, better in listed:
             for found in re.finditer(rf"\b{re.escape(word)}\b", text, re.I):
                 line = text[text.rfind("\n", 0, found.start()) + 1:].split("\n")[0]

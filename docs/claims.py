@@ -2,12 +2,11 @@
 """Prints what the sources promise; docs/CLAIMS.md says how to read it.
 
     docs/claims.py [NAME..]    prints the claims of the crates of these names, or of all. `faults` are the codes of each fault,
-                               `memory` the calls that may take memory
-    docs/claims.py --words     writes the words of docs/ARCHITECTURE.md again, which docs/check.py compares
+                               `memory` the calls that may take memory, `types` the public types of the crates below nms_tool
 
 The claims of a crate are its public functions: the first sentence of the comment without its CFR section (docs/RULES.md has
-those), the names of the clauses, and the fault. The words are the public types of the crates below nms_tool, each with its file
-and the first sentence of its comment, up to the colon of a long one. They stand between two lines of that page.
+those), the names of the clauses, and the fault. A type has its file and the first sentence of its comment, up to the colon of a
+long one.
 """
 import functools
 import os
@@ -18,9 +17,7 @@ TOP = os.path.dirname(os.path.dirname(os.path.realpath(__file__)))
 sys.path.insert(0, f"{TOP}/build")
 import crates
 
-MADE = re.compile(r"(<!-- made: words -->\n).*?(<!-- end -->)", re.S)
-PAGE = "docs/ARCHITECTURE.md"
-# Words of a sentence that stands whole among the words of ARCHITECTURE.md.
+# Words of a sentence that is printed in full with a type.
 MOST_WORDS = 18
 # The names of clauses that say a number and its bounds.
 NUMBERS = {"number", "value", "place", "count", "at", "low", "high", "within", "below"}
@@ -259,8 +256,8 @@ def below(crate):
     return set(crates.below(crates.listed(), crate))
 
 
-def words():
-    """The public types of the product's crates, those below nms_tool, but for faults and the words of a call."""
+def types():
+    """The public types of the product's crates, those below nms_tool, without faults and the types of the command line."""
     text, product = "|Type|File in `src/`|What it is|\n|---|---|---|\n", below("nms_tool")
     for crate in (it for it in tree().values() if it.name in product and not it.name.endswith("_words")):
         shown = [it for it in crate.types.values() if not is_fault(it.name)]
@@ -271,26 +268,16 @@ def words():
 
 def known():
     """The names by which claims are printed."""
-    return [*tree(), "faults", "memory"]
+    return [*tree(), "faults", "memory", "types"]
 
 
 def printed(name):
     """The claims of a crate, or what else has that name."""
-    text = {"faults": faults, "memory": memory}.get(name, lambda: claims_of(tree()[name]))()
+    text = {"faults": faults, "memory": memory, "types": types}.get(name, lambda: claims_of(tree()[name]))()
     return f"## {name}\n\n{text}"
 
 
-def made():
-    """The page with its words written again."""
-    return MADE.sub(lambda it: it[1] + words() + it[2], read(PAGE))
-
-
 def main(names):
-    if names == ["--words"]:
-        text = made()
-        with open(os.path.join(TOP, PAGE), "w", encoding="utf-8") as page:
-            page.write(text)
-        return
     if set(names) - set(known()):
         sys.exit(__doc__)
     print("\n".join(map(printed, names or known())), end="")

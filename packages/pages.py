@@ -19,6 +19,8 @@ EDITS = (
      "The commands of these pages run in a folder with copies of `share/nms/examples` and `share/nms/rust`.\n"),
     ("README.md", r"^\| To prove \|.*\n", ""),
     ("README.md", r"; for `\./gate quick` `python3`", ""),
+    ("README.md", r" \(first build on four processors, disk\)| \(\d+[\d a-z]* minutes, [\d.]+ GB\)", ""),
+    ("README.md", r"^For a first look, .*--unproved.*\n\n", ""),
     ("README.md", r"^\| take the code over \|.*\n", ""),
     ("README.md", r"`\./nms_lib`, then `[^`]*`", "`gcc YOURS.c $(pkg-config --cflags --libs nms)`"),
     ("docs/CALLING.md", r"(?<=^## The library\n\n)    \./nms_lib\n\n.*\n",
