@@ -16,7 +16,7 @@ use crate::taking::{CLOSED, give, take};
 use nms_calls::{NmsBest, NmsChange, NmsOrder, NmsPlan, answer};
 use std::alloc::Global;
 
-/// Writes the best bid and the best offer of each symbol, up to the first that is refused, and how many were written.
+/// Writes the best bid and the best offer of each symbol, up to the first symbol that is refused, and how many were written.
 #[unsafe(no_mangle)]
 pub extern "C" fn nms_raw_best_all(
     look: &mut NmsLook,

@@ -8,7 +8,7 @@ use std::alloc::Global;
 use std::marker::Model;
 use std::ptr::null_mut;
 
-/// The word of an open handle.
+/// The mark of an open handle.
 pub const OPEN: u64 = 78;
 
 #[repr(C)]
@@ -59,7 +59,7 @@ impl NmsBoard {
         }
     }
 
-    /// The word.
+    /// The handle's mark.
     pub(crate) fn mark(&mut self) -> u64
         ensures { (result ≡ self.old.mark) × (self.new ≡ self.old) }
     {

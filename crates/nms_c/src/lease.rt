@@ -1,11 +1,11 @@
-//! A share of the right to read a value, as `Part` of the toolchain's `left_right`.
+//! A share of the right to read a value, as `Part` of `left_right`, which the toolchain has.
 ghost use Rattle.std.specs.Prelude.{◌≡◌, ℕ};
 ghost use Rattle.left_right.specs.Parted.{part_owns, part_shares};
 
 use std::marker::Model;
 
-/// One of the equal shares into which a loan of a value was cut: `count` shares of the loan named `round`. Whoever holds one
-/// may read the value, and nobody may write it until all are back.
+/// One of the equal shares into which a loan of a value was cut: `count` shares of the loan named `round`. The holder of a
+/// share may read the value. No one may write it until all shares are back.
 #[derive(Drop)]
 pub(crate) struct Lease<T> {
     pub(crate) ptr: *const T,

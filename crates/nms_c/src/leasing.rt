@@ -1,4 +1,4 @@
-//! A look's share of the right to read its board, taken out for one call and put back.
+//! Taking a look's share of the right to read its board for one call, and putting it back.
 ghost use Rattle.std.specs.Prelude.{◌≡◌, ◌≢◌, Some, None, MatchOption};
 ghost use Rattle.nms_c.specs.Held.{open_mark};
 
@@ -22,7 +22,8 @@ fn share_of(look: NmsLook, _nothing: ()) -> (NmsLook, Lease<OpenBoard>)
     (NmsLook::shut(), look.into_lease())
 }
 
-/// Takes the share out of a look at an open board; the look is closed until it is back. `None` leaves a closed look as it was.
+/// Takes the share out of a look at an open board. The look is closed until the share is back. `None` leaves a closed look as
+/// it was.
 #[inline(always)]
 pub(crate) fn take_share(look: &mut NmsLook) -> Option<Lease<OpenBoard>>
     ensures { MatchOption result ((look.old.mark ≢ open_mark) × (look.new ≡ look.old))

@@ -1,4 +1,4 @@
-//! What a look is given: `specs/Looked`.
+//! The value that a look is given: `specs/Looked`.
 ghost use Rattle.std.specs.Prelude.{◌≡◌, Option, None, Some, ℕ};
 ghost use Rattle.nms_c.specs.Held.{open_mark};
 ghost use Rattle.nms_calls.specs.Opened.{Opened};
@@ -9,9 +9,9 @@ use nms_calls::OpenBoard;
 use std::marker::Model;
 use std::ptr::null;
 
-/// A copy of a handle's 16 bytes, for one look. If the handle is open, it has a share of the right to read the board: as long
-/// as no call writes to the board, there may be any number of looks. A look stores nothing but its answer, since its own two
-/// words lie on its caller's stack.
+/// A copy of a handle's 16 bytes, for one look. If the handle is open, it has a share of the right to read the board. There may
+/// be any number of looks while no call writes to the board. A look stores only its answer, because its own two words lie on
+/// its caller's stack.
 #[repr(C)]
 #[derive(Drop)]
 pub struct NmsLook {
@@ -29,7 +29,7 @@ impl Model for NmsLook {
 }
 
 impl NmsLook {
-    /// A look with that share.
+    /// A look with the share of a lease.
     pub(crate) fn from_lease(lease: Lease<OpenBoard>) -> NmsLook
         ensures { (result.mark ≡ open_mark) × (result.value ≡ Some lease.value) × (result.round ≡ lease.round) × (result.count ≡ lease.count) }
     {
@@ -58,7 +58,7 @@ impl NmsLook {
         }
     }
 
-    /// The word.
+    /// The look's mark.
     pub(crate) fn mark(&mut self) -> u64
         ensures { (result ≡ self.old.mark) × (self.new ≡ self.old) }
     {

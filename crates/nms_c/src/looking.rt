@@ -1,4 +1,4 @@
-//! Looks at a symbol of a board, each with a share of the right to read it.
+//! Looks at a symbol of a board. Each has a share of the right to read it.
 ghost use Rattle.std.specs.Prelude.{◌≡◌, ◌≢◌, IfOk};
 ghost use Rattle.nms_board.specs.Shown.{rows_held};
 ghost use Rattle.nms_calls.specs.ChangeNumbers.{IsOpening};
@@ -14,8 +14,8 @@ use crate::look::NmsLook;
 use crate::taking::CLOSED;
 use nms_calls::{NmsBest, NmsOpening, NmsRow, NmsRows, NmsThrough, NmsView, answer};
 
-/// Writes the best bid, the best offer and the state of the market of a symbol. As with each function here, any number of
-/// looks may be under way.
+/// Writes the best bid, the best offer and the state of the market of a symbol. Any number of looks may be under way, as with
+/// each function here.
 #[unsafe(no_mangle)]
 pub extern "C" fn nms_raw_best_of(look: &mut NmsLook, sym: u16, out: &mut NmsBest) -> u32
     ensures closed { look.old.mark ≢ open_mark → (result ≡ 15) × (look.new ≡ look.old) }

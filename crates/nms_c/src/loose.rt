@@ -1,4 +1,4 @@
-// A box as its pointer, as in the toolchain's `once_cell`.
+// A box as its pointer, as in `once_cell` of the toolchain.
 ghost use Rattle.std.specs.Prelude.{◌≡◌};
 ghost use Rattle.std_alloc.specs.Box.Ownership.{box_owns};
 

@@ -1,4 +1,4 @@
-//! What a board holds, and names for numbers.
+//! What a board holds, and the numbers of its names.
 ghost use Rattle.std.specs.Prelude.{◌≡◌, ◌≢◌, Some};
 ghost use Rattle.nms_quote.specs.Roster.{part_text, place_in, symbol_text};
 ghost use Rattle.nms_calls.specs.Codes.{answer_of};
@@ -13,7 +13,7 @@ use crate::look::NmsLook;
 use crate::taking::CLOSED;
 use nms_calls::{NmsCounts, answer, find_part, find_sym, part_name, sym_name};
 
-/// Writes how many changes were applied and may still be, and how many participants and symbols there are.
+/// Writes how many changes were applied, how many more may be, and how many participants and symbols there are.
 #[unsafe(no_mangle)]
 pub extern "C" fn nms_raw_counts_of(look: &mut NmsLook, out: &mut NmsCounts) -> u32
     ensures closed { look.old.mark ≢ open_mark → (result ≡ 15) × (look.new ≡ look.old) × (out.new ≡ out.old) }
@@ -30,7 +30,7 @@ pub extern "C" fn nms_raw_counts_of(look: &mut NmsLook, out: &mut NmsCounts) -> 
     0
 }
 
-/// Writes the place of the participant of a name.
+/// Writes the place of the participant with a name.
 #[unsafe(no_mangle)]
 pub extern "C" fn nms_raw_find_part(look: &mut NmsLook, name: &[u8], out: &mut u8) -> u32
     ensures closed { look.old.mark ≢ open_mark → (result ≡ 15) × (look.new ≡ look.old) }
@@ -49,7 +49,7 @@ pub extern "C" fn nms_raw_find_part(look: &mut NmsLook, name: &[u8], out: &mut u
     code
 }
 
-/// Writes the place of the symbol of a name.
+/// Writes the place of the symbol with a name.
 #[unsafe(no_mangle)]
 pub extern "C" fn nms_raw_find_sym(look: &mut NmsLook, name: &[u8], out: &mut u16) -> u32
     ensures closed { look.old.mark ≢ open_mark → (result ≡ 15) × (look.new ≡ look.old) }

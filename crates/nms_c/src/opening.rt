@@ -1,4 +1,4 @@
-//! Versions, opening and closing a board, and the place where a text is no setup.
+//! Versions, opening and closing a board, and the place at which a text is no setup.
 ghost use Rattle.std.specs.Prelude.{◌≡◌, ◌≢◌, ◌⊎◌, IfErr, IfOk};
 ghost use Rattle.nms_fees.specs.declared.setup_fault.SetupFault.{SetupFault as Fault};
 ghost use Rattle.nms_calls.specs.Codes.{setup_code};

@@ -1,4 +1,4 @@
-//! A handle's board, taken for one call and put back.
+//! Taking a handle's board for one call, and putting it back.
 ghost use Rattle.std.specs.Prelude.{◌≡◌, ◌≢◌, Some, None, MatchOption};
 ghost use Rattle.nms_c.specs.Held.{open_mark};
 
@@ -27,7 +27,7 @@ fn out_of(board: NmsBoard, alloc: Global) -> (NmsBoard, Box<OpenBoard>)
     (NmsBoard::shut(alloc), kept)
 }
 
-/// Takes the board of an open handle, which stays closed until the board is back. `None` leaves a closed handle as it was.
+/// Takes the board of an open handle, which is closed until the board is back. `None` leaves a closed handle as it was.
 #[inline(always)]
 pub(crate) fn take(alloc: Global, board: &mut NmsBoard) -> Option<Box<OpenBoard>>
     ensures { MatchOption result ((board.old.mark ≢ open_mark) × (board.new ≡ board.old))

@@ -8,7 +8,7 @@ use std::alloc::Global;
 use std::marker::Model;
 use std::ptr::null_mut;
 
-/// The word of open terms. It differs from that of a board, so that neither is taken for the other.
+/// The mark of open terms. It differs from that of a board, so that a call can't take one for the other.
 pub(crate) const TERMS_OPEN: u64 = 84;
 
 /// The roster and the fees of a setup, which are constant from opening to closing.
@@ -60,7 +60,7 @@ impl NmsTerms {
         }
     }
 
-    /// The word.
+    /// The mark of the terms.
     pub(crate) fn mark(&mut self) -> u64
         ensures { (result ≡ self.old.mark) × (self.new ≡ self.old) }
     {

@@ -1,4 +1,4 @@
-//! A look's share of the right to read its terms, taken out for one call and put back.
+//! Taking a look's share of the right to read its terms for one call, and putting it back.
 ghost use Rattle.std.specs.Prelude.{◌≡◌, ◌≢◌, Some, None, MatchOption};
 ghost use Rattle.nms_c.specs.TermsHeld.{terms_mark};
 
@@ -22,7 +22,7 @@ fn share_of(look: NmsTermsLook, _nothing: ()) -> (NmsTermsLook, Lease<Setup>)
     (NmsTermsLook::shut(), look.into_lease())
 }
 
-/// Takes the share out of a look at open terms; the look is closed until it is back. `None` leaves a closed look as it was.
+/// Takes the share out of a look at open terms. The look is closed until the share is back. `None` leaves a closed look as it was.
 #[inline(always)]
 pub(crate) fn take_share(look: &mut NmsTermsLook) -> Option<Lease<Setup>>
     ensures { MatchOption result ((look.old.mark ≢ terms_mark) × (look.new ≡ look.old))

@@ -1,4 +1,4 @@
-//! What a look is given: `specs/TermsLooked`.
+//! The value that a look is given: `specs/TermsLooked`.
 ghost use Rattle.std.specs.Prelude.{◌≡◌, Option, None, Some, ℕ};
 ghost use Rattle.nms_c.specs.TermsHeld.{terms_mark};
 ghost use Rattle.nms_fees.specs.Settings.{Settings};
@@ -27,7 +27,7 @@ impl Model for NmsTermsLook {
 }
 
 impl NmsTermsLook {
-    /// A look with that share.
+    /// A look with the share of a lease.
     pub(crate) fn from_lease(lease: Lease<Setup>) -> NmsTermsLook
         ensures { (result.mark ≡ terms_mark) × (result.value ≡ Some lease.value) × (result.round ≡ lease.round) × (result.count ≡ lease.count) }
     {
@@ -59,7 +59,7 @@ impl NmsTermsLook {
         }
     }
 
-    /// The word.
+    /// The look's mark.
     pub(crate) fn mark(&mut self) -> u64
         ensures { (result ≡ self.old.mark) × (self.new ≡ self.old) }
     {

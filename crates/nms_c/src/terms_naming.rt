@@ -1,4 +1,4 @@
-//! Names of terms for numbers, as `naming` has them of a board.
+//! Places for the names of terms, as `naming` has them for a board.
 ghost use Rattle.std.specs.Prelude.{◌≡◌, ◌≢◌, Some};
 ghost use Rattle.nms_quote.specs.Roster.{part_text, place_in, symbol_text};
 ghost use Rattle.nms_calls.specs.Codes.{answer_of};
@@ -13,7 +13,7 @@ use crate::terms_leasing::{give_share, take_share};
 use crate::terms_look::NmsTermsLook;
 use nms_calls::{answer, find_part, find_sym, part_name, sym_name};
 
-/// Writes the place of the participant of a name.
+/// Writes the place of the participant with a name.
 #[unsafe(no_mangle)]
 pub extern "C" fn nms_raw_terms_find_part(look: &mut NmsTermsLook, name: &[u8], out: &mut u8) -> u32
     ensures closed { look.old.mark ≢ terms_mark → (result ≡ 15) × (look.new ≡ look.old) }
@@ -32,7 +32,7 @@ pub extern "C" fn nms_raw_terms_find_part(look: &mut NmsTermsLook, name: &[u8], 
     code
 }
 
-/// Writes the place of the symbol of a name.
+/// Writes the place of the symbol with a name.
 #[unsafe(no_mangle)]
 pub extern "C" fn nms_raw_terms_find_sym(look: &mut NmsTermsLook, name: &[u8], out: &mut u16) -> u32
     ensures closed { look.old.mark ≢ terms_mark → (result ≡ 15) × (look.new ≡ look.old) }

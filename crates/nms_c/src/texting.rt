@@ -1,4 +1,4 @@
-//! Texts: of the library's version and of codes, of records, and of plans.
+//! Texts of the library's version, of codes, of records, and of plans.
 ghost use Rattle.std.specs.Prelude.{◌≡◌, ◌≢◌, ◌⊎◌, ◌+◌, ◌<◌, codes, drop, IfOk, IfSome, length, Option, take};
 ghost use Rattle.nms_lines.specs.PlanText.{plan_text};
 ghost use Rattle.nms_calls.specs.CodeTexts.{code_fault, code_text};
@@ -27,7 +27,7 @@ pub extern "C" fn nms_raw_version(out: &mut [u8], bytes: &mut usize) -> u32
     answer(put_version(out, bytes))
 }
 
-/// Writes what a code says.
+/// Writes what a code means.
 #[unsafe(no_mangle)]
 pub extern "C" fn nms_raw_code_text(code: u32, out: &mut [u8], bytes: &mut usize) -> u32
     ensures answer { result ≡ answer_of (code_fault (code_text code) out.old) }
@@ -54,8 +54,8 @@ pub extern "C" fn nms_raw_apply_text(alloc: Global, board: &mut NmsBoard, text: 
     code
 }
 
-/// Applies the changes that the lines of a text say, in order up to the first that is refused. Writes how many were applied, and
-/// the byte where the next line begins.
+/// Applies the changes that the lines of a text say, in order up to the first that is refused. Writes how many were applied,
+/// and the byte at which the next line begins.
 #[unsafe(no_mangle)]
 pub extern "C" fn nms_raw_apply_lines(
     alloc: Global,

@@ -1,5 +1,5 @@
-//! Terms, and calls on a view that is a value. A view's call reads the terms with a share of the right to, or none at all, so
-//! any number of them may run at once.
+//! Terms, and calls on a view that is a value. A view's call reads the terms with a share of the right to read them, or reads
+//! none. So any number of these calls may run at once.
 ghost use Rattle.std.specs.Prelude.{◌≡◌, ◌≢◌, IfErr, IfOk, None, Option, Some};
 ghost use Rattle.nms_calls.specs.Codes.{answer_of, setup_code};
 ghost use Rattle.nms_calls.specs.ViewCalls.{IsChecked, IsPlanned, IsThrough};

@@ -14,3 +14,5 @@ pub mod TakenLemmas
 pub mod ThroughLemmas
 pub mod VersionLemmas
 pub mod ViewLemmas
+pub mod ViewPlanLemmas
+pub mod WrittenLemmas

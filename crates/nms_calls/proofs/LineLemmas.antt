@@ -69,7 +69,7 @@ split_alone text none =
 
 -- ---- a line
 
--- a part with others behind it is a line without its carriage return
+-- a part with others after it is a line without its carriage return
 line_before : (part : List ℕ) (parts : List (List ℕ)) → HasPart parts
     → lines_of_parts (part ∷ parts) ≡ strip_carriage_return part ∷ lines_of_parts parts
 line_before part parts (first, rest, is) = rw is refl
@@ -100,7 +100,7 @@ start_alone text none = rw (split_alone text none) (omega arith)
 
 -- ---- how far a text was read
 
--- n lines take that many bytes, and what is left has the other lines
+-- n lines take the given bytes, and what is left has the other lines
 pub record IsAt (text : List ℕ) (n start : ℕ) : Type 0 where
   pub within : start ≤ length text
   pub few : n ≤ start

@@ -44,7 +44,7 @@ use Rattle.nms_calls.specs.declared.plan_numbers.NmsPlan.{NmsPlan}
 use Rattle.nms_calls.specs.declared.row_numbers.NmsBest.{NmsBest}
 use Rattle.nms_calls.proofs.VersionLemmas.{accepted_at, doubt_at, numbers_at}
 
--- a board of no change stands for the empty tape
+-- a board of no change shows the empty tape
 pub stands_for_nothing : (board : Board) → IsBoard board → board.applied ≡ 0 → StandsFor board []
 stands_for_nothing board is none = of_tape is.tape is.stands
   where
@@ -54,7 +54,7 @@ stands_for_nothing board is none = of_tape is.tape is.stands
 
 -- ---- one change
 
--- far from where the board goes over, a tape with the change stands for what is left
+-- far from where the board goes over, a tape with the change shows what is left
 pub grew_by : (old new : Opened) (change : Change) → IsOfRoster old → holds (sizes_on old) change ≡ true → HasApplied old new change
     → GrewBy change old new
 grew_by old new change roster held applied = λ far tape stands.

@@ -134,7 +134,7 @@ said_again parts Offer most seen numbers out said of =
     (looked Bid parts seen.version seen.bids numbers.bid said.bids)
     (left_looked most parts seen.version seen.offers (looked Offer parts seen.version seen.offers numbers.offer said.offers)) of
 
--- so it is read of them
+-- this is what is read of them
 pub read_so : ReducedNumbersAreReadSo
 read_so parts side most seen numbers out read said of is =
     let left : Seen = reduced_view side most seen in

@@ -48,7 +48,7 @@ rows-one_more out k row f wide within before is i below =
           h).is_protected) (ap (λ (r : NmsRow). r.is_protected) is) i below;
     }
 
--- a side has at most as many rows as there are participants
+-- a side has at most one row for each participant
 
 pub length-cons_option : {X : Type 0} (o : Option X) (xs : List X) → length (cons_option o xs) ≤ length xs + 1
 length-cons_option None xs = omega arith

@@ -34,7 +34,7 @@ accepted_at seen order fees plan cuts n is = record {
   holds = is.holds;
 }
 
--- its numbers are those before, but for the version
+-- its numbers are those before, except the version
 pub numbers_at : (plan : Plan) (cuts : List Cut) (out : NmsPlan) (n : ℕ) → AreNumbersOf plan cuts out
     → AreNumbersOf (record plan { version = n }) cuts (record out { version = n })
 numbers_at plan cuts out n are = record {

@@ -39,8 +39,8 @@ AreAnswers answers items places n =
 
 -- ---- the best after each change
 
--- why a change is not applied after so many: the change is checked first, then the symbol whose best rows are asked for, then the
--- room. Of a withdrawal the symbol is looked at too
+-- why a change is not applied after n others: the change is checked first, then the symbol whose best rows are asked for, then
+-- the room. After a withdrawal the symbol is looked at too
 abbrev pub looked_fault : Settings → ℕ → ℕ → Result Change CallFault → Option CallFault
 looked_fault settings applied sym (Err found) = Some found
 looked_fault settings applied sym (Ok change) =

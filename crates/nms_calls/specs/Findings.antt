@@ -49,7 +49,7 @@ doubted (Ok (Some doubt)) = Some fault.Doubted
 abbrev pub confirm_fault : Opened → NmsOrder → NmsPlan → Option CallFault
 confirm_fault opened order plan = doubted (finding opened order plan)
 
--- what a finding writes over what stood there
+-- what a finding writes over the numbers before
 abbrev pub doubt_written : NmsDoubt → Result (Option Doubt) CallFault → NmsDoubt
 doubt_written out (Err found) = out
 doubt_written out (Ok None) = no_doubt

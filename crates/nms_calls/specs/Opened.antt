@@ -18,7 +18,7 @@ use Rattle.nms_calls.specs.declared.call_fault.CallFault.TheVariants as fault
 use Rattle.nms_calls.specs.declared.change_numbers.NmsChange.{NmsChange}
 use Rattle.nms_calls.specs.declared.order_numbers.NmsOrder.{NmsOrder}
 
--- the settings, the board that is shown, and how many changes were applied beside those that the board counts
+-- the settings, the board that is shown, and how many changes were applied in addition to those that the board counts
 pub record Opened : Type 0 where
   pub settings : Settings
   pub board : Board
@@ -62,11 +62,11 @@ sym_fault opened sym = if nat_lt sym (length opened.settings.roster.syms) then N
 
 -- ---- a change
 
--- whether one more may be applied after so many
+-- whether one more may be applied after n changes
 abbrev pub has_room : ℕ → Bool
 has_room applied = nat_lt applied MOST_BEFORE
 
--- why a change that numbers say is refused after so many: their room is checked last
+-- why a change that numbers say is refused after n others: their room is checked last
 abbrev pub room_fault : ℕ → Result Change CallFault → Option CallFault
 room_fault applied (Err found) = Some found
 room_fault applied (Ok change) = if has_room applied then None else Some fault.Full

@@ -1,5 +1,5 @@
 -- What the numbers of a plan and its certificate say. This product's own rule.
-use Rattle.std.specs.Prelude.{ℕ, ℤ, ◌==◌, ◌&&◌, Bool, nat_le, nat_lt, List, map, take, Result, Ok, Err, if◌then◌else◌}
+use Rattle.std.specs.Prelude.{ℕ, ℤ, ◌≡◌, ◌≤◌, ◌==◌, ◌&&◌, Bool, nat_le, nat_lt, List, All, length, map, take, Result, Ok, Err, if◌then◌else◌}
 use Rattle.std.specs.List.{list_all}
 use Rattle.nms_units.specs.declared.TheConstants.{MOST_PRICE, MOST_SHARES}
 use Rattle.nms_quote.specs.Terms.{Terms}
@@ -8,7 +8,7 @@ use Rattle.nms_quote.specs.declared.certificate.CutKind.{CutKind}
 use Rattle.nms_quote.specs.declared.certificate.CutKind.TheVariants as kind
 use Rattle.nms_quote.specs.declared.plan.Leg.{Leg}
 use Rattle.nms_sweep.specs.Planned.{Planned}
-use Rattle.nms_calls.specs.PlanNumbers.{cost_said}
+use Rattle.nms_calls.specs.PlanNumbers.{cost_said, cut_numbers, leg_numbers}
 use Rattle.nms_calls.specs.declared.call_fault.CallFault.{CallFault}
 use Rattle.nms_calls.specs.declared.call_fault.CallFault.TheVariants as fault
 use Rattle.nms_calls.specs.declared.plan_numbers.NmsCut.{NmsCut}
@@ -44,6 +44,15 @@ kind_said n marginal = if n == 0 then kind.TooMuch else (if n == 1 then kind.Too
 
 abbrev pub cut_said : NmsCut → Cut
 cut_said cut = record { price = cut.price; kind = kind_said cut.kind cut.marginal }
+
+-- the legs and the cuts that a plan counts are such, and nothing is after them
+pub record AreWritten (n : NmsPlan) : Type 0 where
+  pub legs : n.legs ≤ 32
+  pub cuts : n.cuts ≤ 32
+  pub leg_places : length n.leg ≡ 32
+  pub cut_places : length n.cut ≡ 32
+  pub leg : All (λ leg. leg_numbers (leg_said leg) ≡ leg) (legs_of n)
+  pub cut : All (λ cut. cut_numbers (cut_said cut) ≡ cut) (cuts_of n)
 
 -- whether all numbers are in their ranges
 abbrev pub is_in_range : NmsPlan → Bool

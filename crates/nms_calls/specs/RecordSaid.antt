@@ -34,7 +34,7 @@ use Rattle.nms_calls.specs.declared.plan_numbers.NmsPlan.{NmsPlan}
 
 -- ---- a change
 
--- the fields of a record: what stands between its commas. No quotes are read
+-- the fields of a record: the texts between its commas. No quotes are read
 abbrev pub fields_in : List ℕ → Record
 fields_in text = slice_split (λ byte. byte == 44) text
 

@@ -27,7 +27,7 @@ most = 4294967295 ∷ 40 ∷ 0 ∷ []
 abbrev pub left : Seen
 left = reduced_view Offer most shown
 
--- at most as many shares of each as it has
+-- at most the shares that each has
 abbrev pub as_many : List ℕ
 as_many = 300 ∷ 500 ∷ 200 ∷ []
 

@@ -9,7 +9,7 @@ use Rattle.nms_calls.specs.declared.call_fault.CallFault.{CallFault}
 -- ---- the lines of a text
 
 -- the records of a text: its lines without their ends. A line ends with a line feed, which the last one may lack; a carriage
--- return before the line feed belongs to that end. Nothing behind the last line feed is no line
+-- return before the line feed belongs to that end. If nothing follows the last line feed, that is no line
 abbrev pub records_in : List ℕ → List (List ℕ)
 records_in text = lines text
 

@@ -19,7 +19,7 @@ pub enum CallFault {
     NoSymbol,
     /// 13: the board has taken 2^63 changes. The setup's limit of the tape does not count here.
     Full,
-    /// 14: no row stands at that place of the rank order.
+    /// 14: the rank order has no row at that place.
     NoRow,
     /// 15: the board is not open.
     Closed,
@@ -27,11 +27,11 @@ pub enum CallFault {
     Doubted,
     /// 17: the board is open already.
     OpenAlready,
-    /// 18: a null pointer, which the header finds.
+    /// 18: a null pointer. The header finds it.
     Null,
     /// 19: the caller's buffer is too small.
     NoRoom,
-    /// 21: the numbers are no view: no look shows them.
+    /// 21: the numbers are no view, because no look shows them.
     NoView,
     /// 101 to 110, and 114: the record is refused.
     Line(LineFault),

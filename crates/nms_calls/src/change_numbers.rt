@@ -16,7 +16,7 @@ pub struct NmsChange {
     pub offer_shares: u32,
     /// The symbol's place.
     pub sym: u16,
-    /// The round lot from now on, 1 to 1,000 shares.
+    /// The new round lot, 1 to 1,000 shares.
     pub lot: u16,
     /// The participant's place.
     pub part: u8,

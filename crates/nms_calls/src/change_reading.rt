@@ -1,4 +1,4 @@
-//! A change read from its numbers: `specs/ChangeSaid`.
+//! Reading a change from its numbers: `specs/ChangeSaid`.
 ghost use Rattle.std.specs.Prelude.{◌≡◌, ◌<◌, ◌&&◌, length, nat_lt, true, if◌then◌else◌, IfOk, Ok};
 ghost use Rattle.nms_quote.specs.Roster.{holds, sizes_of};
 ghost use Rattle.nms_calls.specs.ChangeSaid.{change_said, content_said, lot_said, quotation_said, restating_said, side_said, state_said};
@@ -8,7 +8,7 @@ use crate::change_numbers::NmsChange;
 use nms_quote::{Change, Part, QState, Roster, SideQuote, Sym};
 use nms_units::{Lot, Price, Shares};
 
-/// The change that numbers give on a roster, or the fault of least code. Inlined, so that the change is not copied.
+/// The change that numbers give on a roster, or the fault of least code. It is inlined so that the change is not copied.
 #[inline(always)]
 pub(crate) fn change_of(roster: &Roster, numbers: &NmsChange) -> Result<Change, CallFault>
     ensures change { result ≡ change_said (sizes_of roster.now) numbers.now }
@@ -78,7 +78,7 @@ fn lot_of(roster: &Roster, numbers: &NmsChange) -> Result<Change, CallFault>
     Ok(Change::Lot { sym, lot })
 }
 
-/// The state of a number.
+/// The state that a number stands for.
 fn state_of(number: u8) -> Option<QState>
     ensures { result ≡ state_said number }
 {
@@ -90,7 +90,7 @@ fn state_of(number: u8) -> Option<QState>
     }
 }
 
-/// One side: no quotation if both numbers are 0. `None` if they form no side.
+/// One side: no quotation if both numbers are 0. `None` if the two do not form a side.
 fn side_of(price: u64, shares: u32) -> Option<Option<SideQuote>>
     ensures { result ≡ side_said price shares }
 {

@@ -1,4 +1,4 @@
-//! Changes written as numbers: `specs/ChangeNumbers`.
+//! Writing changes as numbers: `specs/ChangeNumbers`.
 ghost use Rattle.std.specs.Prelude.{◌≡◌, ◌<◌, ℕ, length, slice_get, IfSome, Some};
 ghost use Rattle.nms_opening.specs.declared.TheConstants.{MOST_OPENING};
 ghost use Rattle.nms_calls.specs.ChangeNumbers.{AreChangesAt, IsOpening, IsSaid, change_at, change_numbers, price_number, shares_number, state_number};
@@ -22,7 +22,7 @@ pub(crate) fn put_opening(board: &Boards, sym: Sym, out: &mut NmsOpening)
     put_changes(changes, &mut out.change);
 }
 
-/// Writes changes to the first places, and none to the others.
+/// Writes changes to the first places, and empty ones to the others.
 fn put_changes(changes: &[Change], places: &mut [NmsChange; MOST_OPENING])
     ensures numbers { AreChangesAt places.new changes.now }
     ensures said { (place : ℕ) → place < MOST_OPENING → IfSome (slice_get changes.now place) IsSaid }

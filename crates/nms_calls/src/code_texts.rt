@@ -1,4 +1,4 @@
-//! Codes in words: `specs/CodeTexts`.
+//! The texts of codes: `specs/CodeTexts`.
 ghost use Rattle.std.specs.Prelude.{◌≡◌, codes, IfSome, OnErr, OnOk, option_map};
 ghost use Rattle.std.specs.Result.{result_err};
 ghost use Rattle.nms_calls.specs.CodeTexts.{code_fault, code_text, fault_with, line_text, line_with, own_with, setup_text, setup_with, text_of};
@@ -18,7 +18,7 @@ pub fn put_version(out: &mut [u8], bytes: &mut usize) -> Result<(), CallFault>
     put_text("0.2.0".as_bytes(), out, bytes)
 }
 
-/// Writes what a code says. `NoRow` if no call answers it.
+/// Writes what a code means. `NoRow` if no call answers with it.
 pub fn put_code(code: u32, out: &mut [u8], bytes: &mut usize) -> Result<(), CallFault>
     ensures answer { result_err result ≡ code_fault (code_text code) out.old }
     ensures written { OnOk result (IfSome (code_text code) (λ text. IsWritten text out.old out.new bytes.new)) }
@@ -30,7 +30,7 @@ pub fn put_code(code: u32, out: &mut [u8], bytes: &mut usize) -> Result<(), Call
     }
 }
 
-/// What a code says.
+/// What a code means.
 fn code_text(code: u32) -> Option<&'static str>
     ensures { option_map (λ text. text.now) result ≡ code_text code }
 {
@@ -43,7 +43,7 @@ fn code_text(code: u32) -> Option<&'static str>
     }
 }
 
-/// The fault of a code.
+/// The fault that has a code.
 fn fault_with(code: u32) -> Option<CallFault>
     ensures { result ≡ fault_with code }
 {
@@ -56,7 +56,7 @@ fn fault_with(code: u32) -> Option<CallFault>
     own_with(code)
 }
 
-/// The setup's fault of a code.
+/// The setup's fault that has a code.
 fn setup_with(code: u32) -> Option<SetupFault>
     ensures { result ≡ setup_with code }
 {
@@ -74,7 +74,7 @@ fn setup_with(code: u32) -> Option<SetupFault>
     }
 }
 
-/// The record's fault of a code.
+/// The record's fault that has a code.
 fn line_with(code: u32) -> Option<LineFault>
     ensures { result ≡ line_with code }
 {
@@ -94,7 +94,7 @@ fn line_with(code: u32) -> Option<LineFault>
     }
 }
 
-/// Another fault of a code.
+/// The fault of another kind that has a code.
 fn own_with(code: u32) -> Option<CallFault>
     ensures { result ≡ own_with code }
 {

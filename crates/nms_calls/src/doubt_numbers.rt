@@ -52,7 +52,7 @@ impl NmsDoubt {
         }
     }
 
-    /// A doubt of that number with no place.
+    /// A doubt with the given number and no place.
     fn plain(doubt: u32) -> Self
         ensures { result ≡ record { doubt = doubt; breach = 0; part = 0; cut = 0 } }
     {
@@ -64,7 +64,7 @@ impl NmsDoubt {
         }
     }
 
-    /// A breach of the plan.
+    /// The doubt that is a breach of the plan.
     fn of_breach(breach: Breach) -> Self
         ensures { result ≡ breached breach }
     {

@@ -1,4 +1,4 @@
-//! Many records as one text: `specs/TextLines`.
+//! Calls that read many records in one text: `specs/TextLines`.
 ghost use Rattle.std.specs.Prelude.{◌≡◌, ◌≢◌, ◌+◌, ◌<◌, ◌==◌, ◌∷◌, drop, Err, length, OnErr, position, take};
 ghost use Rattle.std.specs.Result.{result_err};
 ghost use Rattle.std.specs.Str.Lines.{strip_carriage_return};
@@ -10,8 +10,8 @@ use crate::open_board::OpenBoard;
 use nms_fees::SetupFault;
 
 impl OpenBoard {
-    /// Applies the changes that the lines of a text say, in order up to the first that is refused. Writes how many were applied,
-    /// and the byte where the next line begins: the text's length if there is none.
+    /// Applies the changes that the lines of a text say, in order up to the first that is refused. Writes how many were
+    /// applied, and the byte at which the next line begins. If no line is left, that is the text's length.
     pub fn apply_lines(
         &mut self,
         text: &[u8],

@@ -18,7 +18,7 @@ use nms_quote::SideQuote;
 use nms_units::Lot;
 
 impl OpenBoard {
-    /// Writes the best bid and the best offer of each symbol, up to the first that is refused, and how many were written.
+    /// Writes the best bid and the best offer of each symbol, up to the first symbol that is refused, and how many were written.
     pub fn best_all(
         &self,
         syms: &[u16],

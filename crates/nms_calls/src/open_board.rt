@@ -16,7 +16,7 @@ use crate::order_numbers::NmsOrder;
 use crate::order_reading::order_of;
 use crate::plan_numbers::NmsPlan;
 use crate::plan_reading::{no_plan, read_into};
-use crate::plan_writing::put_plan;
+use crate::plan_writing::put_outcome;
 use crate::row_numbers::{NmsBest, NmsRow, market_number};
 use arrayvec::ArrayVec;
 use nms_cert::confirm_on;
@@ -25,12 +25,12 @@ use nms_lines::ByteRecord;
 use nms_nbbo::{best_on, market_between};
 use nms_opening::{MOST_BEFORE, RollingBoard};
 use nms_quote::{Change, Side, SideQuote};
-use nms_sweep::{an_accepted_plan_is_within_bounds, plan_on};
+use nms_sweep::plan_on;
 use nms_units::Lot;
 use std::alloc::Global;
 use std::marker::Model;
 
-/// A board with its setup, and all the room that its calls need: none of them takes memory.
+/// A board with its setup, and all the room that its calls need, so that none of them takes memory.
 #[derive(Drop)]
 pub struct OpenBoard {
     pub(crate) setup: Setup,
@@ -120,7 +120,7 @@ impl OpenBoard {
         ensures unwritten { OnErr result (out.new ≡ out.old) }
     {
         let sym = sym_of(self.setup.roster(), place)?;
-        // Each row is written at once, so that the two need not be kept side by side.
+        // Each row is written at once, so that only one of them is kept at a time.
         let board = self.rolling.board();
         let bid = best_on(board, Side::Bid, sym);
         out.bid = NmsRow::of(&bid);
@@ -132,20 +132,16 @@ impl OpenBoard {
         Ok(())
     }
 
-    /// Plans the order that numbers give, and writes the plan with its certificate. It works in room on its own stack.
+    /// Plans the order that numbers give, and writes the plan with its certificate. It works on its own stack.
     pub fn plan(&self, numbers: &NmsOrder, out: &mut NmsPlan) -> Result<(), CallFault>
         ensures answer { result_err result ≡ order_fault self.now numbers.now }
         ensures best { OnOk result (IfOk (order_said (sizes_on self.now) numbers.now) (λ order. IsBestPlan self.now order out.new)) }
         ensures unwritten { OnErr result (out.new ≡ out.old) }
     {
         let order = order_of(self.setup.roster(), numbers)?;
-        let fees = self.setup.fees();
         let version = self.rolling.version();
-        let mut plan = no_plan(&order);
-        let mut cuts = ArrayVec::new_in(());
-        plan_on(self.rolling.board(), &order, fees, &mut plan, &mut cuts);
-        an_accepted_plan_is_within_bounds(&order, fees, &plan);
-        put_plan(&plan, &cuts, out);
+        let outcome = plan_on(self.rolling.board(), &order, self.setup.fees(), out);
+        put_outcome(outcome, out);
         // The plan has the version that its board counts.
         out.version = version;
         Ok(())
@@ -185,7 +181,7 @@ impl OpenBoard {
         }
     }
 
-    /// A plan's version as the board counts it: a number that no board counts to, if the plan is of another version.
+    /// A plan's version as the board counts it. If the plan is of another version, it is a number to which no board counts.
     fn own_version(&self, planned: u64) -> u64
         ensures { (result == self.now.board.applied) ≡ (planned == version self.now) }
     {

@@ -9,7 +9,7 @@ use nms_opening::MOST_OPENING;
 pub struct NmsOpening {
     /// How many there are.
     pub count: u32,
-    /// 0.
+    /// Always 0.
     pub spare: u32,
     /// The changes, in the order in which they apply. The places after the last are 0.
     pub change: [NmsChange; MOST_OPENING],

@@ -4,7 +4,7 @@
 #[repr(C)]
 #[derive(Clone, Copy)]
 pub struct NmsOrder {
-    /// The worst price, in 1/10,000 dollar.
+    /// The worst price that is accepted, in 1/10,000 dollar.
     pub limit: u64,
     /// 1 to 999,999,999.
     pub shares: u32,

@@ -1,4 +1,4 @@
-//! An order read from its numbers: `specs/OrderSaid`.
+//! Reading an order from its numbers: `specs/OrderSaid`.
 ghost use Rattle.std.specs.Prelude.{◌≡◌, ◌<◌, ◌^◌, length, nat_lt, if◌then◌else◌, IfOk};
 ghost use Rattle.nms_quote.specs.Roster.{sizes_of};
 ghost use Rattle.nms_calls.specs.OrderSaid.{flag_said, order_said, side_said};
@@ -48,7 +48,7 @@ fn set_of(roster: &Roster, digits: u32) -> Result<PartSet, CallFault>
     }
 }
 
-/// The side of a number.
+/// The side that a number stands for.
 pub(crate) fn side_of(number: u8) -> Option<OrderSide>
     ensures { result ≡ side_said number }
 {
@@ -59,7 +59,7 @@ pub(crate) fn side_of(number: u8) -> Option<OrderSide>
     }
 }
 
-/// The flag of a number.
+/// The flag that a number stands for.
 fn flag_of(number: u8) -> Option<bool>
     ensures { result ≡ flag_said number }
 {

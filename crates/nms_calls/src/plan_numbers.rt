@@ -4,29 +4,29 @@
 #[repr(C)]
 #[derive(Clone, Copy)]
 pub struct NmsLeg {
-    /// In 1/10,000 dollar.
+    /// The price, in 1/10,000 dollar.
     pub price: u64,
     /// How many shares.
     pub shares: u32,
     /// The participant's place.
     pub part: u8,
-    /// 0.
+    /// Always 0.
     pub spare_a: u8,
-    /// 0.
+    /// Always 0.
     pub spare_b: u16,
 }
 
-/// What a certificate says of one price.
+/// What a certificate says about one price.
 #[repr(C)]
 #[derive(Clone, Copy)]
 pub struct NmsCut {
-    /// In 1/10,000 dollar.
+    /// The price, in 1/10,000 dollar.
     pub price: u64,
     /// What one more share costs in nanodollars; 0 if the kind has none.
     pub marginal: i64,
     /// 0 too much, 1 too little, 2 a marginal.
     pub kind: u32,
-    /// 0.
+    /// Always 0.
     pub spare: u32,
 }
 
@@ -38,7 +38,7 @@ pub struct NmsPlan {
     pub version: u64,
     /// The cost is `cost_high` * 2^64 + `cost_low` nanodollars, fees included.
     pub cost_low: u64,
-    /// Negative if more is received than paid.
+    /// The upper half. It is negative if more is received than paid.
     pub cost_high: i64,
     /// The shares of all legs.
     pub filled: u32,
@@ -46,11 +46,11 @@ pub struct NmsPlan {
     pub legs: u32,
     /// How many cuts there are, at most 32.
     pub cuts: u32,
-    /// 0.
+    /// Always 0.
     pub spare: u32,
-    /// The legs; the places from their number on are 0.
+    /// The legs. The places after the last are 0.
     pub leg: [NmsLeg; 32],
-    /// The cuts; after them 0.
+    /// The cuts. The places after the last are 0.
     pub cut: [NmsCut; 32],
 }
 

@@ -1,4 +1,4 @@
-//! A plan and its certificate read from numbers: `specs/PlanSaid`.
+//! Reading a plan and its certificate from numbers: `specs/PlanSaid`.
 ghost use Rattle.std.specs.Prelude.{◌≡◌, ◌≤◌, [], map, length, true, Ok, Err, MatchResult, OnErr};
 ghost use Rattle.std.specs.List.{list_all};
 ghost use Rattle.nms_calls.specs.PlanNumbers.{cost_said};
@@ -25,7 +25,7 @@ pub(crate) fn plan_of(
     Ok((plan, cuts))
 }
 
-/// A plan for an order that fills nothing, to be read into.
+/// A plan for an order that fills nothing, into which another is read.
 pub(crate) fn no_plan(order: &Order) -> Plan
     ensures filled { result.filled ≡ 0 }
     ensures legs { result.legs.items ≡ [] }
@@ -39,7 +39,7 @@ pub(crate) fn no_plan(order: &Order) -> Plan
     }
 }
 
-/// As `plan_of`, but the plan and its certificate replace the ones there. They stay at a fault.
+/// As `plan_of`, but the plan and its certificate replace the ones there, which stay if there is a fault.
 pub(crate) fn read_into(
     roster: &Roster,
     order: &Order,
@@ -71,7 +71,7 @@ pub(crate) fn read_into(
     Ok(())
 }
 
-/// The amount of the two numbers of a cost.
+/// The amount that the two numbers of a cost form.
 fn cost_of(numbers: &NmsPlan) -> Money
     ensures { result ≡ cost_said numbers.now.cost_high numbers.now.cost_low }
 {
@@ -110,7 +110,7 @@ fn is_cut(cut: &NmsCut) -> bool
     Price::new(cut.price).is_some() && cut.kind <= 2
 }
 
-/// Puts the legs that numbers give, of n participants, in place of those there.
+/// Replaces legs by those that numbers give, on a roster of n participants.
 fn read_legs(parts: usize, numbers: &[NmsLeg], legs: &mut ArrayVec<Leg, 32>)
     requires parts { parts ≤ 32 }
     requires few { length numbers.now ≤ 32 }
@@ -124,7 +124,7 @@ fn read_legs(parts: usize, numbers: &[NmsLeg], legs: &mut ArrayVec<Leg, 32>)
     }
 }
 
-/// Puts the cuts given by their numbers in place of those there.
+/// Replaces cuts by those that numbers give.
 fn read_cuts(numbers: &[NmsCut], cuts: &mut Certificate)
     requires few { length numbers.now ≤ 32 }
     requires range { list_all is_cut numbers.now ≡ true }
@@ -138,7 +138,7 @@ fn read_cuts(numbers: &[NmsCut], cuts: &mut Certificate)
     }
 }
 
-/// The leg that numbers give, of n participants.
+/// The leg that numbers give, on a roster of n participants.
 fn leg_of(parts: usize, leg: &NmsLeg) -> Leg
     requires parts { parts ≤ 32 }
     requires range { is_leg leg.now ≡ true }
@@ -152,7 +152,7 @@ fn leg_of(parts: usize, leg: &NmsLeg) -> Leg
     }
 }
 
-/// The cut given by its numbers.
+/// The cut that numbers give.
 fn cut_of(cut: &NmsCut) -> Cut
     requires { is_cut cut.now ≡ true }
     ensures { result ≡ cut_said cut.now }
@@ -163,7 +163,7 @@ fn cut_of(cut: &NmsCut) -> Cut
     }
 }
 
-/// What a cut says, by its number.
+/// The kind of a cut, by its number.
 fn kind_of(cut: &NmsCut) -> CutKind
     ensures { result ≡ kind_said cut.now.kind cut.now.marginal }
 {

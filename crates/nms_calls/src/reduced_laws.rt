@@ -1,4 +1,4 @@
-//! The laws above a reduced view: `specs/ReducedLaws`. The functions do nothing: their contracts are the laws.
+//! The laws about a reduced view: `specs/ReducedLaws`. The functions do nothing: their contracts are the laws.
 ghost use Rattle.nms_calls.specs.ReducedExamples.{ExampleHolds};
 ghost use Rattle.nms_calls.specs.ReducedLaws.{LawfulPlansTakeNoMore, NumbersSayOneView, PlansAreOnTheReducedView, ReducedNumbersAreReadSo, ReducedNumbersSayTheView};
 
@@ -7,7 +7,7 @@ pub fn numbers_say_one_view()
     ensures { NumbersSayOneView }
 {}
 
-/// The numbers that `reduce_view` writes say the reduced view, on each roster on which the numbers that it read said a view. So
+/// If numbers said a view on a roster, the numbers that `reduce_view` writes from them say the reduced view there. So
 /// `plan_view`, `confirm_view` and `through_view` read it there.
 pub fn reduced_numbers_say_the_view()
     ensures said { ReducedNumbersSayTheView }
@@ -19,8 +19,8 @@ pub fn a_plan_is_on_the_reduced_view()
     ensures { PlansAreOnTheReducedView }
 {}
 
-/// A lawful plan on the reduced view sends no participant more than its number of shares, if the side that is reduced is the
-/// one that the order trades with. Each plan that `plan_view` writes is lawful, and each that `confirm_view` confirms.
+/// Suppose that the order trades with the side that is reduced. Then a lawful plan on the reduced view sends no participant
+/// more than its number of shares. Each plan that `plan_view` writes is lawful, and so is each that `confirm_view` confirms.
 pub fn a_lawful_plan_takes_no_more()
     ensures { LawfulPlansTakeNoMore }
 {}

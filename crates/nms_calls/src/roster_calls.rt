@@ -1,4 +1,4 @@
-//! What a board holds, and the names of a setup for numbers: `specs/Named`.
+//! What a board holds, and the numbers of a setup's names: `specs/Named`.
 ghost use Rattle.std.specs.Prelude.{◌≡◌, Some, OnErr, OnOk};
 ghost use Rattle.std.specs.Result.{result_err};
 ghost use Rattle.nms_quote.specs.Roster.{part_text, place_in, symbol_text};
@@ -18,7 +18,7 @@ use nms_opening::MOST_BEFORE;
 pub struct NmsCounts {
     /// How many changes were applied.
     pub applied: u64,
-    /// How many may still be: together they are 2^63. The setup's limit of the tape does not count here.
+    /// How many more may be applied: together they are 2^63. The setup's limit of the tape does not count here.
     pub room: u64,
     /// How many participants there are.
     pub parts: u32,
@@ -27,7 +27,7 @@ pub struct NmsCounts {
 }
 
 impl OpenBoard {
-    /// How many changes were applied and may still be, and how many participants and symbols there are.
+    /// How many changes were applied, how many more may be, and how many participants and symbols there are.
     pub fn counts(&self) -> NmsCounts
         ensures { result ≡ counts_of self.now }
     {
@@ -48,7 +48,7 @@ impl OpenBoard {
     }
 }
 
-/// Writes the place of the participant of a name.
+/// Writes the place of the participant with a name.
 pub fn find_part(setup: &Setup, name: &[u8], out: &mut u8) -> Result<(), CallFault>
     ensures answer { result_err result ≡ absent CallFault.NoParticipant (place_in setup.now.roster.parts name.now) }
     ensures found { OnOk result (place_in setup.now.roster.parts name.now ≡ Some out.new) }
@@ -63,7 +63,7 @@ pub fn find_part(setup: &Setup, name: &[u8], out: &mut u8) -> Result<(), CallFau
     }
 }
 
-/// Writes the place of the symbol of a name.
+/// Writes the place of the symbol with a name.
 pub fn find_sym(setup: &Setup, name: &[u8], out: &mut u16) -> Result<(), CallFault>
     ensures answer { result_err result ≡ absent CallFault.NoSymbol (place_in setup.now.roster.syms name.now) }
     ensures found { OnOk result (place_in setup.now.roster.syms name.now ≡ Some out.new) }

@@ -14,7 +14,7 @@ use nms_quote::Side;
 use nms_units::Price;
 
 impl OpenBoard {
-    /// Writes the row at a place of a side's rank order, from 0 on.
+    /// Writes the row at a place of a side's rank order, counted from 0.
     pub fn ranked(&self, sym: u16, side: u8, place: u8, out: &mut NmsRow) -> Result<(), CallFault>
         ensures answer { result_err result ≡ error_of (ranked_said self.now sym side place) }
         ensures row { OnOk result (IfOk (ranked_said self.now sym side place) (λ row. out.new ≡ some_row row)) }
@@ -48,7 +48,7 @@ impl OpenBoard {
     }
 }
 
-/// The side of a market of a number.
+/// The side of a market that a number stands for.
 pub(crate) fn market_side_of(number: u8) -> Option<Side>
     ensures { result ≡ market_side_said number }
 {

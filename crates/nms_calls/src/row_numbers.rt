@@ -9,18 +9,18 @@ use nms_nbbo::Market;
 #[repr(C)]
 #[derive(Clone, Copy)]
 pub struct NmsRow {
-    /// In 1/10,000 dollar.
+    /// The price, in 1/10,000 dollar.
     pub price: u64,
-    /// Receipts of one symbol are in the order of the changes that last altered a side's price or shares. Each is from 1 on, and
-    /// at most the version. Until 9,990,000 changes were applied it is the number of that change.
+    /// The receipts of one symbol are in the order of the changes that last altered a side's price or shares. Each is at least
+    /// 1 and at most the version. Until 9,990,000 changes were applied it is the number of that change.
     pub receipt: u64,
-    /// In shares: whole round lots, at least one.
+    /// The size in shares: whole round lots, at least one.
     pub size: u32,
     /// The participant's place.
     pub part: u8,
     /// 1 if it is protected, 0 if it is manual.
     pub is_protected: u8,
-    /// 0.
+    /// Always 0.
     pub spare: u16,
 }
 
@@ -36,7 +36,7 @@ pub struct NmsBest {
     pub offer: NmsRow,
     /// 0 empty, 1 one-sided, 2 normal, 3 locked, 4 crossed.
     pub market: u32,
-    /// 0.
+    /// Always 0.
     pub spare: u32,
 }
 
@@ -44,21 +44,21 @@ pub struct NmsBest {
 #[repr(C)]
 #[derive(Clone, Copy)]
 pub struct NmsRows {
-    /// The shares of all rows.
+    /// The prices of the rows, in 1/10,000 dollar.
     pub total: u64,
-    /// Their prices, in 1/10,000 dollar.
+    /// The receipts of the rows.
     pub price: [u64; 32],
-    /// Their receipts.
+    /// The sizes of the rows, in shares.
     pub receipt: [u64; 32],
-    /// Their sizes, in shares.
+    /// The places of the rows' participants.
     pub size: [u32; 32],
     /// Their participants' places.
     pub part: [u8; 32],
     /// 1 if a row is protected, 0 if it is manual.
     pub is_protected: [u8; 32],
-    /// How many there are. The places from there on are 0.
+    /// How many rows there are. The places after the last are 0.
     pub count: u32,
-    /// 0.
+    /// Always 0.
     pub spare: u32,
 }
 
@@ -72,7 +72,7 @@ pub struct NmsView {
     pub market: u32,
     /// The symbol's place.
     pub sym: u16,
-    /// 0.
+    /// Always 0.
     pub spare: u16,
     /// The bids.
     pub bid: NmsRows,
@@ -86,7 +86,7 @@ pub struct NmsView {
 pub struct NmsThrough {
     /// How many changes were applied.
     pub version: u64,
-    /// How many bids there are. The places from there on are rows of size 0.
+    /// How many bids there are. The places after the last are rows of size 0.
     pub bids: u32,
     /// How many offers there are; as `bids`.
     pub offers: u32,
@@ -97,7 +97,7 @@ pub struct NmsThrough {
 }
 
 impl NmsRow {
-    /// The numbers that stand for no row.
+    /// The numbers that mean no row.
     pub(crate) fn none() -> Self
         ensures { result ≡ no_row }
     {

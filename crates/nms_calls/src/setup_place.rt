@@ -16,23 +16,23 @@ pub struct NmsPlace {
     pub code: u32,
     /// 0 if the text is no document; 1 for the document itself, 2 for an element of `participant`, 3 for one of `symbol`.
     pub table: u32,
-    /// 1 to 12 for a key, which is missing or has a wrong value; 13 for a key that may not stand there; 14 for a name that
-    /// an earlier element has; 15 for an element that is no table. 0 if the text is no document.
+    /// 1 to 12 for a key that is missing or has a wrong value; 13 for a key that is not allowed there; 14 for a name that an
+    /// earlier element has; 15 for an element that is no table. 0 if the text is no document.
     pub spot: u32,
-    /// 0.
+    /// Always 0.
     pub spare: u32,
-    /// The element's place in its array, from 0 on; else 0.
+    /// The element's place in its array, counted from 0; else 0.
     pub element: u64,
     /// The place of the earlier element that has the name if the spot is 14, else 0.
     pub twin: u64,
-    /// If the text is no document, how many bytes stand before the place where reading stopped, else 0.
+    /// If the text is no document, how many bytes come before the place at which reading stopped, else 0.
     pub start: u64,
-    /// How many bytes stand before the end of what was not expected, else 0.
+    /// How many bytes come before the end of what was not expected, else 0.
     pub end: u64,
 }
 
-/// Writes why a text is no setup, and where: the first fault of least number. A text that is not UTF-8 is no document from its
-/// first byte to its last. Takes memory and gives it back; `NoMemory` if there is too little.
+/// Writes why a text is no setup, and where: the first fault of least number. A text that is not UTF-8 is refused from its
+/// first byte to its last. Takes memory and gives it back; `NoMemory` if out of memory.
 pub fn put_setup_place(alloc: Global, text: &[u8], out: &mut NmsPlace) -> Result<(), CallFault>
     ensures placed { OnOk result (IsPlaceOf text.now out.new) }
     ensures refused { IfErr result (λ fault. fault ≡ CallFault.Setup SetupFault.NoMemory) }
@@ -77,7 +77,7 @@ fn lesser(found: Finding, later: Option<Finding>) -> Finding
     }
 }
 
-/// The place of a fault, and all 0 if there is none.
+/// The numbers of a fault's place, all 0 if there is none.
 fn placed(found: Option<Finding>) -> NmsPlace
     ensures { result ≡ placed found }
 {
@@ -88,7 +88,7 @@ fn placed(found: Option<Finding>) -> NmsPlace
 }
 
 impl NmsPlace {
-    /// No fault.
+    /// The numbers for no fault.
     fn none() -> Self
         ensures { result ≡ no_place }
     {
@@ -104,7 +104,7 @@ impl NmsPlace {
         }
     }
 
-    /// No document: reading stopped between two places.
+    /// The numbers for a text that is no document: reading stopped between two places.
     fn no_document(start: usize, end: usize) -> Self
         ensures { result ≡ no_document start end }
     {
@@ -120,7 +120,7 @@ impl NmsPlace {
         }
     }
 
-    /// The place of a fault.
+    /// The numbers of a fault's place.
     fn of(found: Finding) -> Self
         ensures { result ≡ place_of found }
     {
@@ -158,7 +158,7 @@ fn element_of(table: SetupTable) -> u64
     }
 }
 
-/// The number of what is wrong there.
+/// The number of what is wrong at a place.
 fn spot_number(spot: Spot) -> u32
     ensures { result ≡ spot_number spot }
 {

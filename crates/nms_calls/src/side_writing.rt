@@ -1,5 +1,5 @@
-//! The rows of a side written as arrays: `specs/RowNumbers`.
-ghost use Rattle.std.specs.Prelude.{◌≡◌, ◌+◌, ◌++◌, ◌<◌, ◌≤◌, List, [], length, slice_get};
+//! Writing the rows of a side as arrays: `specs/RowNumbers`.
+ghost use Rattle.std.specs.Prelude.{◌≡◌, ◌+◌, ◌++◌, ◌<◌, ◌≤◌, true, List, [], length, slice_get};
 ghost use Rattle.std.specs.List.{cons_option};
 ghost use Rattle.nms_board.specs.Shown.{rows_held};
 ghost use Rattle.nms_board.specs.declared.row.Row.{Row};
@@ -8,6 +8,7 @@ ghost use Rattle.nms_calls.specs.RowNumbers.{AreRanked, AreRowsAt, row_numbers, 
 use crate::row_numbers::{NmsRow, NmsRows};
 use arrayvec::ArrayVec;
 use nms_board::{Boards, Row};
+use nms_nbbo::best_on;
 use nms_quote::{Part, Side, Sym};
 use nms_units::Price;
 
@@ -43,7 +44,7 @@ pub(crate) fn put_at(out: &mut NmsRows, place: usize, row: &NmsRow)
     out.is_protected[place] = row.is_protected;
 }
 
-/// Writes rows to the first places, and none to the others.
+/// Writes rows to the first places, and empty ones to the others.
 pub(crate) fn put_rows(rows: &[Row], places: &mut [NmsRow; 32])
     ensures { AreRowsAt places.new rows.now }
 {
@@ -76,8 +77,9 @@ pub(crate) fn through_at(side: Side, millionths: u64, rows: &[Row]) -> ArrayVec<
     through
 }
 
-/// Writes the rows of `through_at` to the first places, and none to the others, but of the rows that a look at a board shows
-/// on a side. They are read off the board, with no view made. Returns how many there are.
+/// Writes rows to the first places, and empty ones to the others. They are the rows of a look's side that `through_at` keeps.
+/// They are read from the board without making a view, and none is read if the best one is not beyond the price. Returns how
+/// many there are.
 pub(crate) fn put_through(
     board: &Boards,
     side: Side,
@@ -90,6 +92,9 @@ pub(crate) fn put_through(
     ensures rows { AreRowsAt places.new (through_at side millionths (rows_held board.now sym side)) }
 {
     places.fill(NmsRow::none());
+    if has_none_beyond(board, side, sym, millionths) {
+        return 0;
+    }
     let mut count = 0;
     for place in 0..board.parts() {
         let row = board.row(side, Part::new(place).unwrap(), sym);
@@ -98,7 +103,19 @@ pub(crate) fn put_through(
     count as u32
 }
 
-/// Writes a row behind the first n places, if there is one and a price in 1/1,000,000 dollar trades through it. Returns how many
+/// Whether the best row of a side is not beyond a price in 1/1,000,000 dollar, so that no row of the side is.
+#[inline(always)]
+fn has_none_beyond(board: &Boards, side: Side, sym: Sym, millionths: u64) -> bool
+    requires { sym < length board.now.sizes.lots }
+    ensures { result ≡ true → through_at side millionths (rows_held board.now sym side) ≡ [] }
+{
+    match best_on(board, side, sym) {
+        Some(best) => !is_beyond(side, millionths, best.price),
+        None => true,
+    }
+}
+
+/// Writes a row after the first n places, if there is one and a price in 1/1,000,000 dollar trades through it. Returns how many
 /// places have rows then.
 #[inline(always)]
 fn put_next(

@@ -1,4 +1,4 @@
-//! One record as text, and plans as text: `specs/RecordSaid`.
+//! Calls on one record as text, and on plans as text: `specs/RecordSaid`.
 ghost use Rattle.std.specs.Prelude.{◌≡◌, ◌≢◌, ◌⊎◌, Err, IfOk, IfErr, IfSome, List, None, OnErr, OnOk, Some, false, true};
 ghost use Rattle.std.specs.Result.{result_err};
 ghost use Rattle.csv.specs.Records.{fields_of};
@@ -110,7 +110,7 @@ impl OpenBoard {
                 Ok(())
             }
             Err(PlanTextFault::NoMemory) => Err(CallFault::Setup(SetupFault::NoMemory)),
-            // nothing is written, so no write fails
+            // No write fails, because nothing is written.
             Err(PlanTextFault::BadPlanText | PlanTextFault::WriteFault) => Err(CallFault::PlanText),
         }
     }
@@ -127,7 +127,7 @@ fn read_fields(row: &mut ByteRecord, text: &[u8]) -> Result<(), AllocError>
     Ok(())
 }
 
-/// The change that a line says: a source of changes brings no other line.
+/// The change that a line says. A source of changes has no other lines.
 fn change_of_line(line: Line) -> Result<Change, CallFault>
     ensures { result ≡ change_of_line line }
 {
@@ -143,7 +143,7 @@ fn change_of_line(line: Line) -> Result<Change, CallFault>
     }
 }
 
-/// Whether each marginal is within 10^18 either way.
+/// Whether each marginal is between -10^18 and 10^18.
 fn are_narrow(certificate: &Certificate) -> bool
     ensures { result ≡ are_narrow certificate.now.items }
 {

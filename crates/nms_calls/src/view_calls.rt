@@ -1,5 +1,5 @@
-//! Calls on a view that is a value, by the roster and the fees of a setup: `specs/ViewCalls`. None takes memory, and each
-//! stores its answer and nothing else, so any number of them may run at once.
+//! Calls on a view that is a value, by the roster and the fees of a setup: `specs/ViewCalls`. None of them takes memory, and
+//! each stores only its answer, so any number of them may run at once.
 ghost use Rattle.std.specs.Prelude.{◌≡◌, OnErr};
 ghost use Rattle.std.specs.Result.{result_err};
 ghost use Rattle.nms_calls.specs.ViewCalls.{IsChecked, IsPlanned, IsThrough};
@@ -11,16 +11,16 @@ use crate::order_numbers::NmsOrder;
 use crate::order_reading::order_of;
 use crate::plan_numbers::NmsPlan;
 use crate::plan_reading::plan_of;
-use crate::plan_writing::put_plan;
+use crate::plan_writing::put_outcome;
 use crate::row_numbers::{NmsThrough, NmsView};
 use crate::side_writing::{put_rows, through_at};
 use crate::view_reading::view_of;
 use nms_cert::confirm;
 use nms_fees::Setup;
 use nms_quote::Side;
-use nms_sweep::{an_accepted_plan_is_within_bounds, plan};
+use nms_sweep::plan_into;
 
-/// Plans the order that numbers give on the view that numbers say, and writes the plan with its certificate.
+/// Plans the order that numbers give on the view that other numbers give, and writes the plan with its certificate.
 ///
 /// Errors, the first that holds: `NoView`, those of the order, `NoSymbol` if the order is of another symbol than the view.
 pub fn plan_view(
@@ -39,15 +39,13 @@ pub fn plan_view(
     if order.sym != view.sym() {
         return Err(CallFault::NoSymbol);
     }
-    let fees = setup.fees();
-    let (plan, certificate) = plan(&view, &order, fees);
-    an_accepted_plan_is_within_bounds(&order, fees, &plan);
-    put_plan(&plan, &certificate, out);
+    let outcome = plan_into(&view, &order, setup.fees(), out);
+    put_outcome(outcome, out);
     Ok(())
 }
 
-/// Confirms that a plan, given by its numbers, is the best lawful one for an order on the view that numbers say, and writes the
-/// doubt if it is not.
+/// Confirms that a plan, given by its numbers, is the best lawful one for an order. Numbers give the view too. If the plan is
+/// not, it writes the doubt.
 ///
 /// Errors, the first that holds: `NoView`, those of the order, those of the plan, `Doubted`.
 pub fn confirm_view(
@@ -76,7 +74,7 @@ pub fn confirm_view(
     }
 }
 
-/// Writes the protected quotations of the view that numbers say which a price in 1/1,000,000 dollar trades through.
+/// Writes the protected quotations of a view that a price in 1/1,000,000 dollar trades through. Numbers give the view.
 ///
 /// Errors, the first that holds: `NoView`, `Range` of the price.
 pub fn through_view(

@@ -1,4 +1,4 @@
-//! A view read from the numbers that a look wrote: `specs/ViewSaid`.
+//! Reading a view from the numbers that a look wrote: `specs/ViewSaid`.
 ghost use Rattle.std.specs.Prelude.{◌≡◌, ◌<◌, ◌≤◌, ◌↔◌, IfSome, IsSome, List, true};
 ghost use Rattle.nms_board.specs.declared.row.Row.{Row};
 ghost use Rattle.nms_calls.specs.RowNumbers.{IsRowAt, market_between, some_row};
@@ -12,8 +12,8 @@ use nms_nbbo::market_between;
 use nms_quote::{Part, Side, Sym};
 use nms_units::Price;
 
-/// The view that numbers say of n participants' rows. `None` if no look shows them: a copy that was torn, or numbers that no
-/// look wrote.
+/// The view that numbers say, with the rows of n participants. `None` if no look shows them, because a copy was torn or no look
+/// wrote them.
 pub(crate) fn view_of(parts: usize, numbers: &NmsView) -> Option<View>
     requires { parts ≤ 32 }
     ensures { IsSaid parts numbers.now result }
@@ -53,7 +53,7 @@ fn market_in(view: &View) -> u32
     market_number(market_between(view.ranked(Side::Bid, 0), view.ranked(Side::Offer, 0)))
 }
 
-/// The rows that the arrays of a side say, in the arrays' order. `None` if a number is out of its range.
+/// The rows that the arrays of a side give, in the arrays' order. `None` if a number is out of its range.
 fn rows_of(parts: usize, version: u64, numbers: &NmsRows) -> Option<ArrayVec<Row, 32>>
     requires { parts ≤ 32 }
     ensures rows { IfSome result (λ rows. AreAt parts version numbers.now rows.items) }

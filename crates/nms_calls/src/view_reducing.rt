@@ -1,5 +1,5 @@
 //! A view with at most a given number of shares of each participant on a side: `specs/ViewReduced`. It takes no memory, and
-//! stores its answer and nothing else.
+//! stores only its answer.
 ghost use Rattle.std.specs.Prelude.{◌≡◌, ◌≤◌, OnErr, length};
 ghost use Rattle.std.specs.Result.{result_err};
 ghost use Rattle.nms_board.specs.Ranking.{ranked_at};
@@ -18,12 +18,12 @@ use nms_board::{Row, View};
 use nms_nbbo::market_between;
 use nms_quote::Side;
 
-/// Writes the view that numbers say, with at most `most[n]` shares of participant n on a side: 0 leaves no quotation of it,
-/// and its size or more leaves it as it is. Rows are ranked by what is left; version and symbol stay, and so does the other
-/// side. It is for a caller whose own orders have taken shares that the feeds still show.
+/// Writes the view that numbers say, with at most `most[n]` shares of participant n on a side: 0 leaves no quotation of it, and
+/// its size or more leaves it as it is. Rows are ranked by what is left. The version, the symbol and the other side stay as
+/// they are. It is for a caller whose own orders have taken shares that the feeds still show.
 ///
 /// What is left of a quotation may be less than a round lot. It stays a quotation, protected as it was, so that a plan takes it
-/// too: an order that swept a part of a displayed size owes the rest.
+/// too. An order that swept a part of a displayed size owes the rest.
 ///
 /// Errors, the first that holds: `NoView`, `Range` of the side.
 pub fn reduce_view(

@@ -25,7 +25,7 @@ use Rattle.nms_rules.proofs.Offered.{In, In-All, In-filter, In-map, find-nothing
 
 -- ---- a leg
 
--- what is said of a leg that is suited, by the tests of a breach
+-- what holds for a leg that is suited, by the tests of a breach
 record Suits (order : Terms) (leg : Leg) (found : Option Row) : Type 0 where
   pub quotation : lacks_quotation order found ≡ false
   pub price : has_other_price leg found ≡ false

@@ -132,7 +132,7 @@ other_rank : (side : OrderSide) (price other : ℕ) → price ≢ other → rank
 other_rank Buy price other differ low = omega (arith, ints)
 other_rank Sell price other differ low = omega (arith, ints)
 
--- what is behind a price is at worse prices
+-- what is after a price is at worse prices
 beyond : (side : OrderSide) (price : ℕ) (rows : List Usable) → AreRanked side rows → Falls rows
     → ((row : Usable) → In row rows → rank_of side price ≤ℤ row.rank) → (row : Usable) → In row (behind price rows)
     → rank_of side price <ℤ row.rank
@@ -223,7 +223,7 @@ both_worse cutoff row less =
       pool-not cutoff row (rw (not-le row.rank cutoff less) refl),
     )
 
--- rows before a cutoff, at it, and behind it
+-- rows before a cutoff, at it, and after it
 record IsCut (cutoff : ℤ) (before here later : List Usable) : Type 0 where
   pub better : (row : Usable) → In row before → row.rank <ℤ cutoff
   pub same : (row : Usable) → In row here → row.rank ≡ cutoff
@@ -319,7 +319,7 @@ next_of side price (first ∷ later) ranked fall starts =
     low rank row (inl is) = omega (arith, ints, rank, ap (λ (one : Usable). one.rank) is)
     low rank row (inr among) = omega (arith, ints, rank, fall.0 row among)
 
--- the rows at the cut's price and those behind it
+-- the rows at the cut's price and those after it
 cut_of : (side : OrderSide) (price : ℕ) (rows before later : List Usable) (passed : Passed) → IsSplit rows before later passed
     → AreRanked side later → Falls later → IsNext side price later
     → IsCut (rank_of side price) before (level price later) (behind price later)

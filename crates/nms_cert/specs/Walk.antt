@@ -31,7 +31,7 @@ unfoldable pub past : ℕ → Passed → List Usable → Passed
 past price passed [] = passed
 past price passed (row ∷ rows) = if row.price == price then past price (with_row passed row) rows else passed
 
--- the rows behind those
+-- the rows after those
 unfoldable pub behind : ℕ → List Usable → List Usable
 behind price [] = []
 behind price (row ∷ rows) = if row.price == price then behind price rows else row ∷ rows

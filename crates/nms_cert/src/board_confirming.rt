@@ -1,5 +1,5 @@
-//! A plan confirmed on a board: `specs/Doubts`. A quick look comes first: `specs/Quick` and `specs/Walk`. Only if it finds
-//! something is a view made, to say what.
+//! Confirming a plan on a board: `specs/Doubts`. A quick look comes first: `specs/Quick` and `specs/Walk`. A view is made only
+//! if that finds something, to say what.
 ghost use Rattle.std.specs.Prelude.{◌≡◌, ◌<◌, ◌≤◌, ◌↔◌, [], All, IsOk, MatchOption, None, OnOk, false, length, true};
 ghost use Rattle.std.specs.Result.{result_err};
 ghost use Rattle.std.specs.List.Sorted.{IsPermutation};
@@ -25,7 +25,7 @@ use nms_rules::{
 };
 use nms_units::Price;
 
-/// As `confirm`, but on what a look at a board shows of the order's symbol.
+/// As `confirm`, but on what a look at a board shows for the order's symbol.
 ///
 /// The rows are read off the board. A view is made only if there may be a doubt, to say which one is first. Takes no memory.
 pub fn confirm_on(
@@ -61,8 +61,8 @@ fn find_doubt_on(
     confirm_by_view(board, order, fees, plan, certificate)
 }
 
-/// Whether a plan and its cuts are found to be without a doubt, in one walk over the legs, one over the rows and one over the
-/// cuts. If not, there may be a doubt.
+/// Whether a plan and its cuts are found to be without a doubt. It walks once over the legs, once over the rows and once over
+/// the cuts. If not, there may be a doubt.
 fn is_accepted(board: &Boards, order: &Order, fees: &FeeBook, plan: &Plan, cuts: &[Cut]) -> bool
     requires { order.now.sym < length board.now.sizes.lots }
     ensures { result ≡ true → doubt_of (seen_on board.now order.now.sym) order.now fees.now plan.now cuts.now ≡ None }
@@ -82,7 +82,7 @@ fn is_accepted(board: &Boards, order: &Order, fees: &FeeBook, plan: &Plan, cuts:
 
 /// As `confirm_on`, by a view.
 ///
-/// Not inlined: each call of a function that holds a view clears its room first.
+/// It is not inlined, because each call of a function that holds a view clears its room first.
 #[inline(never)]
 fn confirm_by_view(
     board: &Boards,
@@ -137,7 +137,7 @@ fn are_suited(board: &Boards, order: &Order, legs: &[Leg]) -> bool
     legs.iter().all(|leg| is_suited(board, order, leg))
 }
 
-/// Whether a leg does.
+/// Whether a leg goes to such a quotation.
 fn is_suited(board: &Boards, order: &Order, leg: &Leg) -> bool
     requires { order.now.sym < length board.now.sizes.lots }
     ensures { result ≡ is_suited order.now leg.now (row_for (seen_on board.now order.now.sym) order.now.side leg.now) }
@@ -153,8 +153,8 @@ fn is_suited(board: &Boards, order: &Order, leg: &Leg) -> bool
     }
 }
 
-/// Whether the legs pass over a row: a protected one at a better price than the worst of theirs that gets less than its full
-/// size.
+/// Whether the legs pass over a row. Such a row is protected, at a better price than the worst of the legs, and gets less than
+/// its full size.
 fn some_is_passed_over(side: OrderSide, legs: &[Leg], rows: &[UsableRow]) -> bool
     requires { length legs.now ≤ MOST_ROWS }
     ensures { result ≡ false → All (λ row. is_passed_over side legs.now row ≡ false) rows.now }
@@ -183,7 +183,7 @@ fn worst_of(side: OrderSide, legs: &[Leg]) -> Option<Price>
     Some(worst)
 }
 
-/// Whether a row is protected, at a better price than this one, and gets less than its full size.
+/// Whether a row is protected, at a better price than the given one, and gets less than its full size.
 fn is_short(side: OrderSide, worst: Price, legs: &[Leg], row: &UsableRow) -> bool
     requires { length legs.now ≤ MOST_ROWS }
     ensures { result ≡ is_short side worst legs.now row.now }
@@ -193,7 +193,7 @@ fn is_short(side: OrderSide, worst: Price, legs: &[Leg], row: &UsableRow) -> boo
         && given_to(legs, row.part) < u64::from(row.size)
 }
 
-/// Whether the legs are within what is asked, and the plan sums them rightly.
+/// Whether the legs are within what is asked, and the plan's sums are right.
 fn is_summed(order: &Order, fees: &FeeBook, plan: &Plan) -> bool
     ensures { result ≡ is_summed order.now fees.now plan.now }
 {

@@ -1,5 +1,5 @@
-//! Whether a certificate shows that a plan is optimal: `specs/Doubts`, and `specs/Accepted` of `nms_rules` for one
-//! without a doubt.
+//! Whether a certificate shows that a plan is optimal: `specs/Doubts`. `specs/Accepted` of `nms_rules` is about one without a
+//! doubt.
 ghost use Rattle.std.specs.Prelude.{◌≡◌, ◌≤◌, ◌↔◌, IsNone, IsOk, OnOk, map, length};
 ghost use Rattle.std.specs.Result.{result_err};
 ghost use Rattle.std.specs.List.Sorted.{IsStrictlyIncreasing};
@@ -22,12 +22,12 @@ use nms_quote::{Certificate, Cut, Order, OrderSide, Plan};
 use nms_rules::{Breach, UsableRow, breach, fillable, usable_rows};
 use nms_units::{MOST_SHARES, Money};
 
-/// Confirms that a plan for an order on a view is optimal: it is lawful, no lawful plan fills more, and none that fills
-/// as much costs less with fees. Shares may be spread in any way that is lawful.
+/// Confirms that a plan for an order on a view is optimal. It is lawful, no lawful plan fills more shares, and none fills as
+/// many for less, fees included. Shares may be spread in any way that is lawful.
 ///
-/// Returns `Ok` exactly if the certificate is accepted, else the doubt of least number that holds. Takes no memory;
-/// looks at each pair of a cut and a row a few times, with at most `MOST_ROWS` (32) of each. Costs are in nanodollars,
-/// with the fees of the book.
+/// Returns `Ok` if and only if the certificate is accepted, else the doubt of least number that holds. Takes no memory. Looks
+/// at each pair of a cut and a row a few times, with at most `MOST_ROWS` (32) of each. Costs are in nanodollars, with the fees
+/// of the book.
 pub fn confirm(
     view: &View,
     order: &Order,
@@ -72,7 +72,7 @@ fn refuse_breach(found: Option<Breach>) -> Result<(), Doubt>
     Err(Doubt::Breach(breach))
 }
 
-/// Tests the cuts against the rows, if n shares can be filled and the plan costs that much.
+/// Tests the cuts against the rows, if n shares can be filled and the plan has the given cost.
 fn check_cuts(
     side: OrderSide,
     rows: &[UsableRow],

@@ -8,7 +8,7 @@ use nms_quote::{Cut, CutKind, OrderSide};
 use nms_rules::{Rank, UsableRow, is_better, least_cost, pool, swept};
 use nms_units::{MOST_SHARES, Money, Price};
 
-/// The most that a marginal may be, in nanodollars, and the least with a minus.
+/// The most that a marginal may be, in nanodollars. The least is its negative.
 const MOST_MARGINAL: i128 = 1_000_000_000_000_000_000;
 
 /// Whether some cut is at a price.
@@ -48,7 +48,7 @@ fn is_not_better(side: OrderSide, price: Price, cuts: &[Cut]) -> bool
     cuts.iter().any(|cut| !is_better(side, price, cut.price))
 }
 
-/// Whether some cut is not at a better price than one after it.
+/// Whether any cut is not at a better price than one after it.
 #[tactic(auto, unfolding(crate::specs::Doubts::is_out_of_order))]
 pub(crate) fn is_out_of_order(side: OrderSide, cuts: &[Cut]) -> bool
     ensures { result ≡ is_out_of_order side cuts.now }
@@ -63,7 +63,7 @@ pub(crate) fn is_out_of_order(side: OrderSide, cuts: &[Cut]) -> bool
     false
 }
 
-/// Whether a cut says what the sums at its cutoff deny.
+/// Whether a cut claims what the sums at its cutoff deny.
 pub fn is_wrong_kind(rows: &[UsableRow], most: u64, cutoff: Rank, kind: CutKind) -> bool
     requires { length rows.now ≤ MOST_ROWS }
     ensures { result ≡ is_wrong_kind rows.now most cutoff kind }
@@ -76,7 +76,7 @@ pub fn is_wrong_kind(rows: &[UsableRow], most: u64, cutoff: Rank, kind: CutKind)
     }
 }
 
-/// Whether some cut says what the sums at its cutoff deny.
+/// Whether any cut claims what the sums at its cutoff deny.
 #[tactic(auto, unfolding(crate::specs::Doubts::some_is_wrong_kind))]
 pub(crate) fn some_is_wrong_kind(
     side: OrderSide,

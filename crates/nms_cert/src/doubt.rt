@@ -6,14 +6,13 @@ use thiserror::Error;
 /// Why a plan and its certificate are not confirmed, least number first. Only the first that holds is reported.
 #[derive(Clone, Copy, Debug, PartialEq, Eq, Error)]
 pub enum Doubt {
-    /// K1: the plan is not lawful, or not summed rightly.
+    /// K1: the plan is not lawful, or its sums are wrong.
     Breach(Breach),
     /// K2: the plan fills less than can be filled.
     NotMost,
     /// K3: a price of a usable quotation has no cut.
     CutMissing,
-    /// K4: a cut is at no price of a usable quotation, or the cuts do not stand best price first, each price
-    /// once.
+    /// K4: a cut is at no price of a usable quotation, or the cuts are not in order, best price first and each price once.
     CutExtra,
     /// K5: a cut is of the wrong kind: `TooMuch` if the better protected quotations are no more than can be filled;
     /// `TooLittle` if what may be traded with is no less; `Marginal` if the better protected quotations are more.

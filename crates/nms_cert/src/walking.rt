@@ -1,4 +1,4 @@
-//! The cuts of a certificate and the usable rows, best price first, gone through together: `specs/Walk`.
+//! Passing through the cuts of a certificate and the usable rows together, best price first: `specs/Walk`.
 ghost use Rattle.std.specs.Prelude.{◌≡◌, ◌+◌, ◌*◌, ◌≤◌, ◌^◌, length};
 ghost use Rattle.nms_rules.specs.Usable.{rank_of};
 ghost use Rattle.nms_cert.specs.Walk.{are_walked, behind, is_bounded, is_done, is_right_kind, none_passed, past, protected_size, starts_at, with_row};
@@ -9,12 +9,12 @@ use nms_quote::{Cut, CutKind, OrderSide};
 use nms_rules::{MOST_SIZE, Rank, UsableRow};
 use nms_units::{MOST_SHARES, Money, Price};
 
-/// What the rows that were passed show.
+/// What the rows that were passed display.
 #[derive(Clone, Copy)]
 pub(crate) struct Passed {
-    /// How many shares.
+    /// How many shares they display.
     pub(crate) shown: u64,
-    /// How many of them the protected rows show.
+    /// How many of these are in protected rows.
     pub(crate) swept: u64,
 }
 
@@ -27,8 +27,8 @@ impl Passed {
     }
 }
 
-/// Whether the cuts are at the prices of the rows, each price once, and each cut is right: n shares can be filled, and the
-/// plan costs that much. The rows come best price first.
+/// Whether the cuts are at the prices of the rows, each price once, and each cut is right. The given plan cost and the n shares
+/// that can be filled decide that. The rows come best price first.
 #[tactic(auto, unfolding(crate::specs::Walk::are_walked))]
 pub(crate) fn are_walked(
     side: OrderSide,
@@ -72,7 +72,7 @@ fn starts_at(price: Price, rows: &[UsableRow]) -> bool
     }
 }
 
-/// What is passed with the rows at a price ahead of any other, and the rows behind them.
+/// What is passed with the rows at a price before any other, and the rows after them.
 #[tactic(auto, unfolding(crate::specs::Walk::past, crate::specs::Walk::behind))]
 fn pass<'a>(price: Price, passed: Passed, rows: &'a [UsableRow]) -> (Passed, &'a [UsableRow])
     requires shown { passed.shown + length rows.now * MOST_SIZE ≤ 2 ^ 37 }

@@ -1,4 +1,4 @@
--- A board's history and the sides that stand in a symbol.
+-- A board's history and the sides that are quoted in a symbol.
 use Rattle.std.proofs.Common.{◌≡◌, ◌≢◌, ℕ, ◌<◌, ◌≤◌, ◌==◌, ◌&&◌, Bool, true, false, [], ◌∷◌, length, Option, Some, None, slice_get}
 use Rattle.std.proofs.Common.{unwrap_or, if◌then◌else◌, refl, sym, ap, ◌∙◌, arith}
 use Rattle.std.specs.List.{filter_map, cons_option, last_or}
@@ -43,7 +43,7 @@ said_with_state part symbol side (Withdraw p) puts = absurd (by_test (p == part)
     by_test false puts = false≢true puts
 said_with_state part symbol side (Lot s lot) puts = absurd (false≢true puts)
 
--- a side that stands at the end has a state, whatever came before
+-- a side that is quoted at the end has a state, after any history
 stated_since : (part sym : ℕ) (side : Side) (tape : Tape) (said : Option (Option Content)) (state : Option QState)
     → (is_some (unwrap_or said None) ≡ true → is_some state ≡ true)
     → is_some (unwrap_or (last_or said (filter_map (said_of part sym side) tape)) None) ≡ true
@@ -64,7 +64,7 @@ stated_since part symbol side (change ∷ tape) said state so_far stands =
     by_said (Some new) None link rest puts = rest (Some new) state (λ puts_new. absurd (false≢true (link puts_new))) puts
     by_said (Some new) (Some q) link rest puts = rest (Some new) (Some q) (λ _. refl) puts
 
--- a side that stands is of a participant with a state
+-- a side that is quoted is of a participant with a state
 stated_at : (part sym : ℕ) (side : Side) (tape : Tape) → is_some (content_at part sym side tape) ≡ true
     → is_some (state_at part sym tape) ≡ true
 stated_at part symbol side tape stands = stated_since part symbol side tape None None (λ e. absurd (false≢true e)) stands
@@ -91,8 +91,8 @@ read_at board tape symbol part stands in_parts in_syms =
     by_side Bid same = ap (λ (cell : Cell). cell.bid) same
     by_side Offer same = ap (λ (cell : Cell). cell.offer) same
 
--- the sides of a symbol: each receipt is the number of a change, no two participants' standing sides have one, and who has a
--- standing side has a state
+-- the sides of a symbol: each receipt is the number of a change, no two participants' quoted sides have one, and a participant
+-- with a quoted side has a state
 pub record IsSound (board : Board) (sym : ℕ) : Type 0 where
   pub there : (part : ℕ) → part < board.sizes.parts → slice_get board.cells (place_of part sym) ≡ Some (cell_at board sym part)
   pub counts : (side : Side) (part : ℕ) → part < board.sizes.parts → stands board sym side part ≡ true

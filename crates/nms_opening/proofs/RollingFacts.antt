@@ -1,14 +1,14 @@
 -- Boards that go over: what the next board has of a symbol stays alike, and the other symbols stay as at the opening.
 use Rattle.std.proofs.Common.{◌≡◌, ◌≢◌, ℕ, zero, suc, ◌+◌, ◌<◌, ◌≤◌, true, false, All, List, length, Option, Some, slice_get, fold, nat_lt}
-use Rattle.std.proofs.Common.{refl, sym, ap, subst, ◌∙◌, inl, inr, arith, eqb-true, ltb-true, ltb-false, ne_eqb, ◌==◌, ◌*◌}
+use Rattle.std.proofs.Common.{refl, sym, ap, subst, ◌∙◌, inl, inr, arith, ltb-true, ltb-false, ne_eqb, ◌==◌, ◌*◌}
 use Rattle.std.specs.Option.{is_some}
-use Rattle.std.proofs.lemmas.Bool.{and_parts, cases_eq, false≢true}
+use Rattle.std.proofs.lemmas.Bool.{cases_eq, false≢true}
 use Rattle.nms_quote.specs.Content.{Content}
 use Rattle.nms_quote.specs.Roster.{Sizes, holds}
 use Rattle.nms_quote.specs.declared.side_quote.Side.{Side}
 use Rattle.nms_quote.specs.declared.change.Change.{Change}
 use Rattle.nms_quote.specs.declared.change.Change.TheVariants.{Lot, Quote, State, Withdraw}
-use Rattle.nms_board.specs.Cells.{Board, IsBoard, after, empty_cell, opening, place_of, takes, withdraw_from, withdrawn}
+use Rattle.nms_board.specs.Cells.{Board, IsBoard, after, empty_cell, opening, place_of, withdraw_from, withdrawn}
 use Rattle.nms_board.specs.History.{concerns}
 use Rattle.nms_board.specs.declared.cell.Cell.{Cell}
 use Rattle.nms_board.proofs.Offered.{change_cell_elsewhere, change_cell_here, slice_get-replicate_below, takes_by}

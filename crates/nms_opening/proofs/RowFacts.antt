@@ -155,7 +155,7 @@ rows_again one other symbol side alike =
     ∙ filter_map-mapped (renumbered other symbol side) (row_held one symbol side) (row_held other symbol side) 0 one.sizes.parts
     (λ part from below. row_again one other symbol side part alike (omega arith))
 
--- a row is of a participant whose side stands, with its receipt
+-- a row is of a participant whose side is quoted, with its receipt
 record IsRowAt (board : Board) (sym : ℕ) (side : Side) (row : Row) : Type 0 where
   in_parts : row.part < board.sizes.parts
   something : stands board sym side row.part ≡ true

@@ -117,7 +117,7 @@ order_stays one other symbol change side along part second before (both m m') (b
     (held_at (after other change) symbol side part).receipt (held_at (after other change) symbol along second).receipt
     (λ sooner. absurd (omega (arith, sooner, m, m2))) (λ _. omega (arith, m', m2'))
 
--- the state of a side that stands after a change
+-- the state of a side that is quoted after a change
 state_stays : (part sym : ℕ) (side : Side) (change : Change) (content : Option Content) (state state' : Option QState)
     → (is_some content ≡ true → state ≡ state') → is_some (unwrap_or (said_of part sym side change) content) ≡ true
     → option_or (state_said part sym change) state ≡ option_or (state_said part sym change) state'

@@ -20,7 +20,7 @@ cell_at board sym part = unwrap_or (slice_get board.cells (place_of part sym)) e
 abbrev pub held_at : Board → ℕ → Side → ℕ → Holding
 held_at board sym side part = on_side side (cell_at board sym part).bid (cell_at board sym part).offer
 
--- what it quotes on the side, shown or not; the side stands if it quotes
+-- what it quotes on the side, shown or not
 abbrev pub content_on : Board → ℕ → Side → ℕ → Option Content
 content_on board sym side part = (held_at board sym side part).quote
 
@@ -35,8 +35,8 @@ state_in board sym part = (cell_at board sym part).state
 abbrev pub is_earlier : Board → ℕ → Side → ℕ → Side → ℕ → Bool
 is_earlier board sym side part along second = nat_lt (held_at board sym side part).receipt (held_at board sym along second).receipt
 
--- the boards have one roster. In the symbol they have the same round lot, and for each participant the same contents
--- and, if a side stands, the same state. The receipts of the standing sides are in the same order
+-- the boards have one roster. In the symbol they have the same round lot, and for each participant the same contents and, if a
+-- side is quoted, the same state. The receipts of the quoted sides are in the same order
 pub record ShowAlike (one other : Board) (sym : ℕ) : Type 0 where
   pub roster : one.sizes ≡ other.sizes
   pub lot : slice_get one.lots sym ≡ slice_get other.lots sym

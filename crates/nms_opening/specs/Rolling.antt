@@ -8,7 +8,7 @@ use Rattle.nms_opening.specs.Alike.{ShowAlike}
 use Rattle.nms_opening.specs.Opening.{HasNothing}
 use Rattle.nms_opening.specs.declared.TheConstants.{MOST_OPENING, ROLLS_AT}
 
--- the board that is shown, and how many changes were taken beside those that it counts
+-- the board that is shown, and how many changes were taken in addition to those that it counts
 pub record Rolled : Type 0 where
   pub board : Board
   pub before : ℕ
@@ -29,7 +29,7 @@ pub record HasRoom (board next : Board) (carried : ℕ) : Type 0 where
   pub board_few : board.applied ≤ ROLLS_AT + carried
   pub next_few : next.applied ≤ (MOST_OPENING + 1) * carried
 
--- what the second board is for: nothing yet, or so many symbols
+-- what the second board is for: nothing yet, or the first n symbols
 abbrev pub IsReady : Board → Board → Option ℕ → Type 0
 IsReady board next None = (board.sizes ≡ next.sizes) × (board.applied < ROLLS_AT)
 IsReady board next (Some carried) = IsCarrying board next carried × HasRoom board next carried × (carried < length board.sizes.lots)

@@ -1,4 +1,4 @@
-//! The opening changes of a board: a short list that makes a new board of its roster show the same.
+//! The opening changes of a board, which are a short list that makes a new board of its roster show the same.
 #![tactic(auto)]
 
 mod laws;
@@ -10,10 +10,11 @@ mod rolling;
 /// The most opening changes of a symbol: its round lot, and two sides of each of 32 participants.
 pub const MOST_OPENING: usize = 65;
 
-/// A `RollingBoard` begins to go over when its board has this many changes: then there is room for one change a symbol.
+/// A `RollingBoard` begins to go over when its board has this number of changes, because then there is room for one change a
+/// symbol.
 pub const ROLLS_AT: u64 = 9_990_000;
 
-/// The most changes that a `RollingBoard` counts beside those of its board.
+/// The most changes that a `RollingBoard` counts in addition to those of its board.
 pub const MOST_BEFORE: u64 = 9_223_372_036_854_775_808;
 
 pub use laws::{alike_boards_show_the_same, alike_boards_stay_alike, worked_examples};

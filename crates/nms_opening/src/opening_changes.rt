@@ -1,12 +1,11 @@
-//! The opening changes of one symbol, as a list in the value itself.
+//! The opening changes of one symbol, as a list inside the value.
 ghost use Rattle.std.specs.Prelude.{◌≡◌, ◌<◌, ◌≤◌, [], ◌∷◌, ◌++◌, length};
 
 use crate::MOST_OPENING;
 use nms_quote::{Change, Part};
 use std::marker::Model;
 
-/// The opening changes of one symbol, in the order in which they apply: at most `MOST_OPENING`. They are in the value
-/// itself.
+/// The opening changes of one symbol, in the order in which they apply: at most `MOST_OPENING`. They are inside the value.
 #[derive(Drop)]
 pub struct OpeningChanges {
     places: [Change; MOST_OPENING],
@@ -26,7 +25,7 @@ impl Model for OpeningChanges {
 }
 
 impl OpeningChanges {
-    /// No changes. A change has no default, so the unused places hold a withdrawal.
+    /// An empty list. A change has no default, so the unused places hold a withdrawal.
     pub(crate) fn none() -> Self
         ensures { result ≡ [] }
     {

@@ -15,8 +15,8 @@ use std::alloc::Global;
 use std::marker::Model;
 use std::mem;
 
-/// A board that takes changes without end. Each change takes about as long as that of a plain board: near the limit of its changes
-/// the board also brings one symbol to the next board, which takes its place when it has all symbols.
+/// A board that takes changes without end. Each change takes about as long as on a plain board. Near the limit of its changes,
+/// each change also brings one symbol to the next board. That takes the board's place when it has all symbols.
 #[derive(Drop)]
 pub struct RollingBoard {
     board: Boards,
@@ -53,7 +53,7 @@ impl RollingBoard {
         })
     }
 
-    /// The board, for all looks. Its receipts count from the last time that it went over: they are in the order of the changes.
+    /// The board, for all looks. Its receipts count from the last time that it went over, and are in the order of the changes.
     pub fn board(&self) -> &Boards
         ensures { result.now ≡ self.now.board }
     {
@@ -68,7 +68,8 @@ impl RollingBoard {
         self.before + self.board.applied()
     }
 
-    /// Takes a change. It takes as long as with a plain board, but for one symbol's opening changes while the board goes over.
+    /// Takes a change. It takes as long as on a plain board. While the board goes over, one symbol's opening changes are added.
+    #[inline(always)]
     pub fn apply(&mut self, change: Change)
         requires held { holds self.old.board.sizes change ≡ true }
         requires before { self.old.before ≤ MOST_BEFORE }
@@ -79,22 +80,64 @@ impl RollingBoard {
             None => {
                 self.board.apply(change);
                 if self.board.applied() == ROLLS_AT {
-                    self.next.clear();
-                    self.carried = go_over(&mut self.board, &mut self.next, 0, &mut self.before);
+                    self.carried = begin(&mut self.board, &mut self.next, &mut self.before);
                 }
             }
             Some(carried) => {
-                apply_both(&mut self.board, &mut self.next, change, carried);
-                bring(&self.board, &mut self.next, carried);
-                self.carried = go_over(
+                self.carried = carry_on(
                     &mut self.board,
                     &mut self.next,
-                    carried + 1,
+                    change,
+                    carried,
                     &mut self.before,
                 );
             }
         }
     }
+}
+
+/// Begins to go over to the next board, which is empty yet. It returns how many symbols that board has.
+///
+/// Like `carry_on` it is not inlined, so that a usual change, which does neither, pays nothing for them.
+#[inline(never)]
+fn begin(board: &mut Boards, next: &mut Boards, before: &mut u64) -> Option<u16>
+    requires roster { board.old.sizes ≡ next.old.sizes }
+    requires many { board.old.applied ≡ ROLLS_AT }
+    requires before { before.old ≤ MOST_BEFORE }
+    ensures ready { IsReady board.new next.new result }
+    ensures counted { before.new + board.new.applied ≡ before.old + board.old.applied }
+    ensures roster { board.new.sizes ≡ board.old.sizes }
+    ensures alike { (sym : ℕ) → sym < length board.old.sizes.lots → ShowAlike board.old board.new sym }
+{
+    board.stands_for_a_tape();
+    next.clear();
+    go_over(board, next, 0, before)
+}
+
+/// Takes a change while the board goes over, and brings one more symbol to the next board. It returns how many symbols that
+/// board has then.
+#[inline(never)]
+fn carry_on(
+    board: &mut Boards,
+    next: &mut Boards,
+    change: Change,
+    carried: u16,
+    before: &mut u64,
+) -> Option<u16>
+    requires held { holds board.old.sizes change ≡ true }
+    requires carrying { IsCarrying board.old next.old carried }
+    requires room { HasRoom board.old next.old carried }
+    requires within { carried < length board.old.sizes.lots }
+    requires before { before.old ≤ MOST_BEFORE }
+    ensures ready { IsReady board.new next.new result }
+    ensures counted { before.new + board.new.applied ≡ before.old + board.old.applied + 1 }
+    ensures roster { board.new.sizes ≡ board.old.sizes }
+    ensures alike { (sym : ℕ) → sym < length board.old.sizes.lots → ShowAlike (after board.old change) board.new sym }
+{
+    board.stands_for_a_tape();
+    apply_both(board, next, change, carried);
+    bring(board, next, carried);
+    go_over(board, next, carried + 1, before)
 }
 
 /// Applies a change to the board, and to the next one if it has the change's symbol.
@@ -115,7 +158,7 @@ fn apply_both(board: &mut Boards, next: &mut Boards, change: Change, carried: u1
     }
 }
 
-/// Whether a change goes to the next board too: it is of a symbol that is there, or of all.
+/// Whether a change also goes to the next board, because it is of a symbol that is there, or of all symbols.
 fn is_followed(change: &Change, carried: u16) -> bool
     ensures { result ≡ is_followed change.now carried }
 {
@@ -127,9 +170,9 @@ fn is_followed(change: &Change, carried: u16) -> bool
     }
 }
 
-/// Brings the opening changes of one symbol more to the next board.
+/// Brings the opening changes of one more symbol to the next board.
 ///
-/// Not inlined: the room of its list would be in the frame of each change.
+/// It is not inlined, because the room of its list would be in the frame of each change.
 #[inline(never)]
 fn bring(board: &Boards, next: &mut Boards, carried: u16)
     requires carrying { IsCarrying board.now next.old carried }
@@ -143,7 +186,7 @@ fn bring(board: &Boards, next: &mut Boards, carried: u16)
     next.apply_all(changes.as_slice());
 }
 
-/// Goes over to the next board if it has all symbols; how many it has, if not.
+/// Goes over to the next board if it has all symbols. If not, returns how many it has.
 fn go_over(board: &mut Boards, next: &mut Boards, carried: u16, before: &mut u64) -> Option<u16>
     requires carrying { IsCarrying board.old next.old carried }
     requires room { HasRoom board.old next.old carried }

@@ -1,4 +1,4 @@
--- Where a row stands at a cutoff (swept, in the pool, or beyond), and its parts of the sums.
+-- The place of a row at a cutoff (swept, in the pool, or beyond), and its parts of the sums.
 use Rattle.std.proofs.Common.{◌≡◌, true, false, ◌⊎◌, inl, inr, refl}
 use Rattle.std.specs.Prelude.{ℤ, pos, not, ◌-ℤ◌, ◌*ℤ◌, ◌<ℤ◌}
 use Rattle.std.specs.Int.{int_max}

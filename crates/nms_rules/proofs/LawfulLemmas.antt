@@ -87,7 +87,7 @@ is_usable-from seen asked fees quoted within allowed limit =
     (and_from (is_allowed asked quoted) (not (is_better asked.side asked.limit quoted.price)) allowed
     (not_from_false (is_better asked.side asked.limit quoted.price) limit)))
 
--- a leg's quotation stands among the rows, by its participant
+-- a leg's quotation is among the rows, by its participant
 pub served : (seen : Seen) (asked : Terms) (leg : Leg) (row : Row) → Serves seen asked leg row
     → In row (contra_rows asked.side seen) × (row.part ≡ leg.part)
 served seen asked leg row serves =
@@ -129,7 +129,7 @@ passes-shares seen asked fees plan passes leg within =
     let some = eqb-false leg.shares 0 (list_any-none has_no_shares plan.legs.items passes.shares leg within) in
     omega (arith, some)
 
--- ---- legs that are served, each by a quotation of its own
+-- ---- legs that are served, each by its own quotation
 
 -- what both sides of the theorem come to
 record Legs (seen : Seen) (asked : Terms) (legs : List Leg) : Type 0 where

@@ -1,4 +1,4 @@
--- What an order's names change: nothing if there are none, and the quotations of each alone.
+-- What an order's names change: nothing if there are none, and only the quotations of each.
 use Rattle.std.proofs.Common.{◌≡◌, ℕ, ◌==◌, Bool, true, false, ◌||◌, not, List, refl, ap, sym, ◌∙◌, map}
 use Rattle.std.specs.List.{filter}
 use Rattle.std.proofs.lemmas.Bool.{and_parts, eq-eqb, ne_eqb, not-true, or_left}
@@ -14,7 +14,7 @@ use Rattle.nms_rules.proofs.LawfulLemmas.{passes-serves, served}
 use Rattle.nms_rules.proofs.MemberLemmas.{All-In}
 use Rattle.nms_rules.proofs.NoneLemmas.{passes-none}
 
--- ---- nobody is named
+-- ---- no participant is named
 
 unnamed : (order : Terms) → order.self_help ≡ nobody → (row : Row) → is_named order row ≡ false
 unnamed order none row = ap (λ set. has_part set row.part) none ∙ has-nobody row.part

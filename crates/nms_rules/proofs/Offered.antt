@@ -1,4 +1,4 @@
--- The lemmas of this crate that proofs of crates above it may cite. Its other lemmas are for this crate alone.
+-- The lemmas of this crate that proofs of crates above it may cite. Its other lemmas are only for this crate.
 pub use Rattle.nms_rules.proofs.ApartLemmas.{Apart, Apart-IsDistinct, Apart-filter, Apart-map, Apart-rising, IsDistinct-Apart}
 pub use Rattle.nms_rules.proofs.CutoffLemmas.{Passes, Pools, Sweeps, cost-not, places, pool-is, pool-not, swept-is, swept-not}
 pub use Rattle.nms_rules.proofs.GivenLemmas.{filled-given, given-by, given-cons, given-none, gives, gives-other, gives-own, leg_part}

@@ -43,7 +43,7 @@ lack_some part n P [] lack some = some
 lack_some part n P (x ∷ xs) lack (inl here) = lack.0 (sym here.0)
 lack_some part n P (x ∷ xs) lack (inr later) = lack_some part n P xs lack.1 later
 
--- each number stands once
+-- each number is there once
 abbrev Apart : {X : Type 0} → (X → ℕ) → List X → Type 0
 Apart part [] = Unit {0}
 Apart part (x ∷ xs) = Lack part (part x) xs × Apart part xs

@@ -33,12 +33,12 @@ fillable rows asked = min asked (total (λ row. row.size) rows)
 abbrev pub SweepsBetter : List Usable → Assignment → Usable → Type 0
 SweepsBetter rows given row = All (λ other. other.protected ≡ true → other.rank <ℤ row.rank → given other.part ≡ other.size) rows
 
--- shares go to usable rows alone
+-- shares go only to usable rows
 abbrev pub IsOnUsable : List Usable → Assignment → Type 0
 IsOnUsable rows given = (part : ℕ) → 0 < given part → Any (λ row. row.part ≡ part) rows
 
--- shares go to usable rows alone, no row gets more than it shows, and no more is bought or sold than asked; if a row
--- gets shares, every better protected one is swept
+-- shares go only to usable rows, no row gets more than it shows, and no more is bought or sold than asked; if a row gets
+-- shares, every better protected one is swept
 pub record IsLawful (rows : List Usable) (asked : ℕ) (given : Assignment) : Type 0 where
   pub on_usable : IsOnUsable rows given
   pub within : All (λ row. given row.part ≤ row.size) rows

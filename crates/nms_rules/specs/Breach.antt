@@ -18,7 +18,7 @@ use Rattle.nms_rules.specs.Usable.{contra_rows, is_allowed, is_better, is_bindin
 use Rattle.nms_rules.specs.declared.breach_kind.Breach.{Breach}
 use Rattle.nms_rules.specs.declared.breach_kind.Breach.TheVariants as breach
 
--- ---- the plan as a whole
+-- ---- the plan as such
 
 abbrev pub is_same_side : OrderSide → OrderSide → Bool
 is_same_side Buy Buy = true

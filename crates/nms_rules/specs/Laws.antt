@@ -51,7 +51,7 @@ LawfulPlansPassOverTheNamed =
 abbrev pub is_usable_by_state : Terms → Row → Bool
 is_usable_by_state order row = (row.protected || order.manual) && not (is_better order.side order.limit row.price)
 
--- an order that names nobody may trade with these rows, and has to sweep the protected ones
+-- an order that names no participant may trade with these rows, and has to sweep the protected ones
 pub record NamesNobody (seen : Seen) (order : Terms) (fees : Charges) : Type 0 where
   pub usable : usable seen order fees ≡ map (usable_row order fees) (filter (is_usable_by_state order) (contra_rows order.side seen))
   pub binding : (row : Row) → is_binding order row ≡ row.protected

@@ -1,4 +1,4 @@
-//! Finds the first breach of a plan: `specs/Breach`, and `specs/Faultless` for a plan without one.
+//! Finding the first breach of a plan: `specs/Breach`. `specs/Faultless` is about a plan without one.
 ghost use Rattle.std.specs.Prelude.{◌≡◌, ◌==◌, ◌≤◌, ◌↔◌, IsNone, length, not};
 ghost use Rattle.std.specs.Ordering.{int_eq};
 ghost use Rattle.nms_board.specs.View.{AreRows};
@@ -15,8 +15,8 @@ use nms_board::{MOST_ROWS, View};
 use nms_fee_book::FeeBook;
 use nms_quote::{Leg, Order, Plan};
 
-/// Returns the first breach that holds, by number; `None` exactly if the plan is lawful and summed rightly (17 CFR
-/// 242.600, "intermarket sweep order"; 242.611(b)(1), (5) and (6)).
+/// Returns the first breach that holds, by number. It is `None` if and only if the plan is lawful and its sums are right (17
+/// CFR 242.600, "intermarket sweep order"; 242.611(b)(1), (5) and (6)).
 ///
 /// Takes no memory. Costs are in nanodollars, with the fees of the book.
 pub fn breach(view: &View, order: &Order, fees: &FeeBook, plan: &Plan) -> Option<Breach>
@@ -26,7 +26,7 @@ pub fn breach(view: &View, order: &Order, fees: &FeeBook, plan: &Plan) -> Option
     find_breach(view, order, fees, plan)
 }
 
-/// The first breach, and what the view's type says of its rows.
+/// The first breach, and the facts about the view's rows that its type gives.
 fn find_breach(view: &View, order: &Order, fees: &FeeBook, plan: &Plan) -> Option<Breach>
     ensures first { result ≡ breach_of view.now order.now fees.now plan.now }
     ensures bids { AreRows view.now.bids }

@@ -1,9 +1,9 @@
-//! What breaks a plan.
+//! The rules that a plan can break.
 use nms_quote::Part;
 use std::fmt;
 use thiserror::Error;
 
-/// What breaks a plan, least number first. Only the first that holds is reported.
+/// The rule that a plan breaks, least number first. Only the first that holds is reported.
 #[derive(Clone, Copy, Debug, PartialEq, Eq, Error)]
 pub enum Breach {
     /// P1: the plan is of another version than the view.
@@ -25,15 +25,15 @@ pub enum Breach {
     BeyondLimit,
     /// P9: the legs have more shares than were asked for.
     OverAsked,
-    /// P10: a protected quotation, of a participant that the order does not name, at a strictly better price than some
-    /// leg's gets less than its full displayed size (17 CFR 242.611).
+    /// P10: the plan trades through a protected quotation. It is of a participant that the order does not name, at a strictly
+    /// better price than some leg's, and gets less than its full displayed size (17 CFR 242.611).
     TradedThrough {
-        /// Its participant; the least place if several are traded through.
+        /// The quotation's participant; the least place if several are traded through.
         part: Part,
     },
     /// P11: `filled` is not the sum of the legs' shares.
     FilledWrong,
-    /// P12: `cost` is not what the legs cost with fees.
+    /// P12: `cost` is not the cost of the legs with fees.
     CostWrong,
 }
 

@@ -1,5 +1,4 @@
-//! What must be swept at a cutoff, what the pool has, and the least that filling n shares can cost:
-//! `specs/Cutoff`.
+//! The shares to sweep at a cutoff, the pool, and the least cost of filling n shares: `specs/Cutoff`.
 ghost use Rattle.std.specs.Prelude.{◌≡◌, ◌≤◌, ◌+◌, ◌*◌, ◌^◌, ◌+ℤ◌, ◌-ℤ◌, ◌≤ℤ◌, neg_ℤ, pos, length};
 ghost use Rattle.std.specs.Int.{int_max};
 ghost use Rattle.nms_rules.specs.Assignment.{fillable, total};
@@ -11,7 +10,7 @@ use crate::usable_row::UsableRow;
 use nms_board::MOST_ROWS;
 use nms_units::{MOST_SHARES, Money, Shares};
 
-/// How many shares can be filled: all that the rows show, or what is asked if that is less.
+/// How many shares can be filled: all that the rows show, or the number asked for if that is less.
 ///
 /// There are at most `MOST_ROWS` rows, one for each participant.
 pub fn fillable(rows: &[UsableRow], asked: Shares) -> u64
@@ -35,15 +34,15 @@ fn shown(rows: &[UsableRow]) -> u64
     sum
 }
 
-/// Whether a row must be swept before a price of that rank may be traded at: it is protected and at a better price
-/// (17 CFR 242.600, "intermarket sweep order").
+/// Whether a row must be swept before the order may trade at a price of that rank. It must if it is protected and at a better
+/// price (17 CFR 242.600, "intermarket sweep order").
 pub fn is_swept(row: &UsableRow, cutoff: Rank) -> bool
     ensures { result ≡ is_swept cutoff row.now }
 {
     row.protected && row.rank < cutoff
 }
 
-/// Whether a row is in the pool at a price of that rank: it is at that price or better, and need not be swept.
+/// Whether a row is in the pool at a price of that rank. It is if it is at that price or better, and need not be swept.
 pub fn is_pooled(row: &UsableRow, cutoff: Rank) -> bool
     ensures { result ≡ is_pooled cutoff row.now }
 {
@@ -74,7 +73,7 @@ fn pool_part(row: &UsableRow, cutoff: Rank) -> u64
     }
 }
 
-/// How many shares must be swept before a price of that rank may be traded at: those of the protected rows at
+/// How many shares must be swept before the order may trade at a price of that rank. They are those of the protected rows at
 /// better prices (17 CFR 242.600, "intermarket sweep order").
 #[tactic(auto, using(crate::proofs::SumLemmas::total_none, crate::proofs::SumLemmas::total_more))]
 pub fn swept(rows: &[UsableRow], cutoff: Rank) -> u64
@@ -89,7 +88,7 @@ pub fn swept(rows: &[UsableRow], cutoff: Rank) -> u64
     sum
 }
 
-/// How many shares are in the pool: those of the other rows at a price of that rank or better.
+/// How many shares are in the pool. They are those of the other rows at a price of that rank or better.
 #[tactic(auto, using(crate::proofs::SumLemmas::total_none, crate::proofs::SumLemmas::total_more))]
 pub fn pool(rows: &[UsableRow], cutoff: Rank) -> u64
     requires { length rows.now ≤ MOST_ROWS }
@@ -103,7 +102,7 @@ pub fn pool(rows: &[UsableRow], cutoff: Rank) -> u64
     sum
 }
 
-/// What a row's shares that must be swept cost.
+/// The cost of a row's shares that must be swept.
 fn swept_cost_part(row: &UsableRow, cutoff: Rank) -> Money
     ensures part { result ≡ swept_cost_part cutoff row.now }
     ensures low { neg_ℤ (pos (2 ^ 100)) ≤ℤ result }
@@ -157,14 +156,14 @@ fn minus(one: Money, other: Money) -> Money
 struct Sums {
     /// How many shares must be swept.
     swept: u64,
-    /// What those cost.
+    /// The cost of these shares.
     swept_cost: Money,
     /// How much less than the marginal the shares of the pool cost, if less.
     savings: Money,
 }
 
 impl Sums {
-    /// Those over no rows.
+    /// The sums over no rows.
     fn none() -> Self
         ensures { result ≡ record { swept = 0; swept_cost = pos 0; savings = pos 0 } }
     {
@@ -201,7 +200,7 @@ fn with_row(sums: Sums, row: &UsableRow, cutoff: Rank, marginal: Money) -> Sums
     }
 }
 
-/// The sums over all rows, in one walk.
+/// The sums over all rows, found in one pass.
 fn sums_at(rows: &[UsableRow], cutoff: Rank, marginal: Money) -> Sums
     requires rows { length rows.now ≤ MOST_ROWS }
     requires low { neg_ℤ (pos (10 ^ 18)) ≤ℤ marginal }
@@ -221,10 +220,10 @@ fn sums_at(rows: &[UsableRow], cutoff: Rank, marginal: Money) -> Sums
     sums
 }
 
-/// The least cost of filling n shares at that rank and no worse, by a marginal: the price, in nanodollars, of
+/// The least cost of filling n shares at that rank and no worse, by a marginal. The marginal is the price, in nanodollars, of
 /// one more share. This product's own rule.
 ///
-/// The marginal is from -10^18 to 10^18.
+/// It is from -10^18 to 10^18.
 pub fn least_cost(rows: &[UsableRow], most: u64, cutoff: Rank, marginal: Money) -> Money
     requires rows { length rows.now ≤ MOST_ROWS }
     requires most { most ≤ MOST_SHARES }

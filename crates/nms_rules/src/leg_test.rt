@@ -1,4 +1,4 @@
-//! Tests of a leg against the quotation that it goes to, and of all legs together: `specs/Breach`.
+//! Tests of a leg against its quotation, and of all legs together: `specs/Breach`.
 ghost use Rattle.std.specs.Prelude.{◌≡◌, ◌<◌, ◌≤◌, ◌^◌, ◌≤ℤ◌, neg_ℤ, pos, length};
 ghost use Rattle.nms_board.specs.Shown.{seen_on};
 ghost use Rattle.nms_rules.specs.Breach.{first_traded_through, goes_to, has_leg_beyond, has_no_shares, has_other_price, has_repeat, is_beyond_limit, is_over_size, is_traded_through, lacks_quotation, row_for, some_has_no_shares, some_has_other_price, some_is_beyond_limit, some_is_over_size, some_lacks_quotation};
@@ -35,7 +35,7 @@ pub fn row_for(view: &View, side: OrderSide, leg: &Leg) -> Option<Row>
     view.row(contra(side), leg.part)
 }
 
-/// As `row_for`, but on what a look at a board shows of a symbol. It is read off the board, with no view made.
+/// As `row_for`, but on what a look at a board shows for a symbol. It is read off the board, without making a view.
 pub fn row_for_on(board: &Boards, side: OrderSide, sym: Sym, leg: &Leg) -> Option<Row>
     requires { sym < length board.now.sizes.lots }
     ensures { result ≡ row_for (seen_on board.now sym) side leg.now }
@@ -47,7 +47,7 @@ pub fn row_for_on(board: &Boards, side: OrderSide, sym: Sym, leg: &Leg) -> Optio
     }
 }
 
-/// Whether a leg goes to no quotation, to one of a participant that the order names, or to a manual one not allowed.
+/// Whether a leg goes to no quotation, to one of a participant that the order names, or to a manual one that is not allowed.
 pub fn lacks_quotation(view: &View, order: &Order, leg: &Leg) -> bool
     ensures { result ≡ lacks_quotation order.now (row_for view.now order.now.side leg.now) }
 {
@@ -91,7 +91,7 @@ fn is_beyond_limit(order: &Order, leg: &Leg) -> bool
     is_better(order.side, order.limit, leg.price)
 }
 
-/// Whether some leg goes to no quotation, to one of a participant that the order names, or to a manual one not allowed.
+/// Whether any leg goes to no quotation, to one of a participant that the order names, or to a manual one that is not allowed.
 #[tactic(auto, unfolding(crate::specs::Breach::some_lacks_quotation))]
 pub(crate) fn some_lacks_quotation(view: &View, order: &Order, legs: &[Leg]) -> bool
     ensures { result ≡ some_lacks_quotation view.now order.now legs.now }
@@ -169,7 +169,7 @@ pub fn given_to(legs: &[Leg], part: Part) -> u64
     given
 }
 
-/// The first protected quotation that the legs trade through, of nobody named, by participant place.
+/// The first protected quotation that the legs trade through, by participant place. Quotations of named participants do not count.
 pub(crate) fn first_traded_through(view: &View, order: &Order, legs: &[Leg]) -> Option<Row>
     requires { length legs.now ≤ MOST_ROWS }
     ensures { result ≡ first_traded_through view.now order.now legs.now }
@@ -182,8 +182,8 @@ pub(crate) fn first_traded_through(view: &View, order: &Order, legs: &[Leg]) -> 
     None
 }
 
-/// Whether the legs trade through a quotation: it is protected, of nobody named, gets less than its full size, and some
-/// leg has a worse price (17 CFR 242.600, "trade-through"; 242.611(b)(1)).
+/// Whether the legs trade through a quotation. They do if some leg has a worse price, and it is protected, not of a named
+/// participant, and gets less than its full size (17 CFR 242.600, "trade-through"; 242.611(b)(1)).
 #[tactic(auto, unfolding(crate::specs::Breach::is_traded_through))]
 pub fn is_traded_through(order: &Order, legs: &[Leg], row: &Row) -> bool
     requires { length legs.now ≤ MOST_ROWS }
@@ -217,7 +217,7 @@ pub fn sum_of(legs: &[Leg]) -> u64
     sum
 }
 
-/// What all legs cost with fees, in nanodollars.
+/// The cost of all legs with fees, in nanodollars.
 pub fn cost_of(fees: &FeeBook, side: OrderSide, legs: &[Leg]) -> Money
     requires { length legs.now ≤ MOST_ROWS }
     ensures { result ≡ cost_of fees.now side legs.now }
@@ -229,7 +229,7 @@ pub fn cost_of(fees: &FeeBook, side: OrderSide, legs: &[Leg]) -> Money
     cost
 }
 
-/// What a leg costs, with its fee.
+/// The cost of a leg, with its fee.
 fn leg_cost(fees: &FeeBook, side: OrderSide, leg: &Leg) -> Money
     ensures cost { result ≡ leg_cost fees.now side leg.now }
     ensures low { neg_ℤ (pos (2 ^ 100)) ≤ℤ result }

@@ -1,5 +1,5 @@
-//! What a lawful plan of an intermarket sweep order is, what breaks one, and what a price trades
-//! through; and what must be swept, and may be taken, at a price.
+//! The rules for a lawful plan of an intermarket sweep order: what breaks one, and what a price trades through. Also what must
+//! be swept, and may be taken, at a price.
 #![tactic(auto)]
 
 mod breach_finding;
@@ -12,7 +12,7 @@ mod self_help;
 mod through;
 mod usable_row;
 
-/// The most that a row's size can count, in shares: as many as its type holds.
+/// The most shares that a row's size can count, which is the most that its type holds.
 pub const MOST_SIZE: u32 = 4_294_967_295;
 
 pub use breach_finding::breach;
@@ -28,5 +28,6 @@ pub use leg_test::{
     is_traded_through, lacks_quotation, row_for, row_for_on, sum_of,
 };
 pub use rank::Rank;
+pub use self_help::is_allowed;
 pub use through::traded_through;
 pub use usable_row::{UsableRow, is_usable, put_usable_rows, usable_rows};

@@ -3,8 +3,7 @@ use nms_quote::OrderSide;
 use nms_units::Price;
 use std::marker::Model;
 
-/// A price's rank for an order, the lower the better: for a buyer the price in 1/10,000 dollar, for a seller its
-/// negative.
+/// A price's rank for an order. A lower rank is better: for a buyer it is the price in 1/10,000 dollar, for a seller its negative.
 #[derive(Clone, Copy, PartialEq, Eq, PartialOrd)]
 pub struct Rank {
     number: i64,

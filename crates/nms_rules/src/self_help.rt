@@ -1,4 +1,4 @@
-//! Which quotations an order may trade with and has to sweep, but for their prices: `specs/Usable`.
+//! Which quotations an order may trade with and has to sweep, apart from their prices: `specs/Usable`.
 ghost use Rattle.std.specs.Prelude.{◌≡◌};
 ghost use Rattle.nms_rules.specs.Usable.{is_allowed, is_binding, is_named};
 
@@ -12,15 +12,16 @@ fn is_named(order: &Order, row: &Row) -> bool
     order.self_help.has(row.part)
 }
 
-/// Whether an order may trade with a quotation, apart from its price: it is of nobody named, and protected, or manual
-/// if the order allows it.
-pub(crate) fn is_allowed(order: &Order, row: &Row) -> bool
+/// Whether an order may trade with a quotation, apart from its price. It may if the participant is not named, and it is
+/// protected, or manual and the order allows that.
+pub fn is_allowed(order: &Order, row: &Row) -> bool
     ensures { result ≡ is_allowed order.now row.now }
 {
     !is_named(order, row) && (row.protected || order.manual)
 }
 
-/// Whether an order has to sweep a quotation before it trades at a worse price: it is of nobody named, and protected.
+/// Whether an order has to sweep a quotation before it trades at a worse price. It has to if the participant is not named, and
+/// it is protected.
 pub(crate) fn is_binding(order: &Order, row: &Row) -> bool
     ensures { result ≡ is_binding order.now row.now }
 {

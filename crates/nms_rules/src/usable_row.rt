@@ -1,4 +1,4 @@
-//! The quotations that an order may trade with, as they stand in a view: `specs/Usable`.
+//! Finding the quotations of a view that an order may trade with: `specs/Usable`.
 ghost use Rattle.std.specs.Prelude.{◌≡◌, ◌+◌, ◌++◌, ◌<◌, ◌≤◌, ◌≤ℤ◌, [], ◌∷◌, AllPairs, false, filter, length, map};
 ghost use Rattle.std.specs.List.Sorted.{IsPermutation, IsStrictlyIncreasing};
 ghost use Rattle.nms_board.specs.Shown.{seen_on};
@@ -23,7 +23,7 @@ pub struct UsableRow {
     pub part: Part,
     /// The rank of its price.
     pub rank: Rank,
-    /// In 1/10,000 dollar.
+    /// The price, in 1/10,000 dollar.
     pub price: Price,
     /// The displayed size, in shares.
     pub size: u32,
@@ -64,7 +64,7 @@ impl UsableRow {
     ghost use Rattle.std.specs.Prelude.{◌≡◌};
     ghost use Rattle.nms_rules.specs.Usable.{usable_row};
 
-    /// A row as an order may trade with it: with its rank, and what a share costs there with the fee.
+    /// A row as an order may trade with it, with its rank, and the cost of a share with the fee.
     pub fn of(order: &Order, fees: &FeeBook, row: &Row) -> Self
         ensures { result ≡ usable_row order.now fees.now row.now }
     {
@@ -108,8 +108,8 @@ pub fn usable_rows(view: &View, order: &Order, fees: &FeeBook) -> ArrayVec<Usabl
     usable
 }
 
-/// Puts the rows of `usable_rows`, best price first, in place of those in a list, but of what a look at a board shows of the
-/// order's symbol. They are read off the board in rank order, with no view made, up to the first one beyond the limit.
+/// Replaces the rows in a list by those of `usable_rows`, best price first. They are those that a look at a board shows for the
+/// order's symbol. They are read off the board in rank order, without making a view, up to the first one beyond the limit.
 /// Takes no memory.
 pub fn put_usable_rows(
     board: &Boards,
@@ -149,8 +149,8 @@ fn put_usable(order: &Order, fees: &FeeBook, row: &Row, rows: &mut ArrayVec<Usab
     }
 }
 
-/// Whether an order may trade with a row: of nobody named, protected, or manual if the order allows it, and within the
-/// limit.
+/// Whether an order may trade with a row. It may if the participant is not named, the row is within the limit, and it is
+/// protected, or manual and the order allows that.
 pub fn is_usable(order: &Order, row: &Row) -> bool
     ensures { result ≡ is_usable order.now row.now }
 {

@@ -71,7 +71,7 @@ unfolding total
 pool-some cutoff [] some = absurd (omega (arith, some))
 pool-some cutoff (row ∷ rows) some = pool-step cutoff row rows (pool-some cutoff rows) some (cases_Bool (is_pooled cutoff row))
 
--- of a row that is not in the pool, the one in the pool is a later one
+-- if a row is not in the pool, the one in the pool is a later one
 later-pooled : (cutoff : ℤ) (row : Usable) (rows : List Usable) → is_pooled cutoff row ≡ false → HasPooled cutoff (row ∷ rows)
     → HasPooled cutoff rows
 unfolding HasPooled

@@ -103,7 +103,7 @@ given-rest cutoff marginal left first rows apart row within =
       gives-other (leg_to first share) row.part (apart.0 row within),
     )
 
--- a row at the marginal that gets shares leaves those at it that stand ahead of it full
+-- a row at the marginal that gets shares leaves those at it that are ahead of it full
 level_full : (cutoff marginal : ℤ) (left : ℕ) (rows : List Usable) → Apart row_part rows → InOrder Price rows → (other row : Usable)
     → In other rows → In row rows → comes_before Price other row ≡ true
     → is_level cutoff marginal other ≡ true → is_level cutoff marginal row ≡ true

@@ -1,4 +1,4 @@
--- Of rows in the order of their prices the first ones, at a cutoff or better, are all that get shares there.
+-- Only the first rows in the order of their prices, at a cutoff or better, get shares there.
 use Rattle.std.proofs.Common.{ℕ, zero, suc, ◌≡◌, ◌<◌, ◌+◌, ◌-◌, ◌++◌, ◌⊎◌, inl, inr, List, [], ◌∷◌, length, take, drop, get_or, refl, ap}
 use Rattle.std.proofs.Common.{sym, ◌∙◌}
 use Rattle.std.proofs.Common.{arith}
@@ -37,7 +37,7 @@ beyond-from cutoff (first ∷ rows) zero row is below own far =
     (near, beyond-more cutoff first rows near is.0)
 beyond-from cutoff (first ∷ rows) (suc at) row is below own far = beyond-from cutoff rows at row is.1 (omega (arith, below)) own far
 
--- a row of the list is the same, whatever stands for others
+-- a row of the list is the same, with any others in place
 pub same_at : (rows : List Usable) (at : ℕ) (one other : Usable) → at < length rows → get_or rows at one ≡ get_or rows at other
 same_at [] at one other below = absurd (omega (arith, below))
 same_at (first ∷ rows) zero one other below = refl

@@ -1,4 +1,5 @@
 mod BoundLemmas
+mod ByCostLemmas
 mod ChoiceLemmas
 mod CutLemmas
 mod CutoffLemmas

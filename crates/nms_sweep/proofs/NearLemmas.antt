@@ -81,7 +81,7 @@ reach cutoff most sum rows some at row is below own count over stop fits = (
         let swept_more = protected-swept cutoff rows at row is below own less in absurd (omega (arith, over, count, fits, swept_more))
     step (inr near) = near
 
--- of the same rows
+-- the same for the same rows
 pub reach_of : (most : ℕ) (one rows some : List Usable) → one ≡ rows → ((cutoff : ℤ) → swept cutoff one ≤ most → StopAt cutoff one some)
     → (cutoff : ℤ) → swept cutoff rows ≤ most → StopAt cutoff rows some
 reach_of most one rows some same reach cutoff fits =

@@ -551,7 +551,7 @@ cuts-made side fees rows by_price by_cost table' most =
     ∙ ap (λ n. kind_by by_cost most row.rank n (pool row.rank by_price)) (total_same (swept_part row.rank) rows by_price same)
     ∙ ap (kind_by by_cost most row.rank (swept row.rank rows)) (total_same (pool_part row.rank) rows by_price same)))
 
--- of slices that show the rows
+-- the same for slices that show the rows
 pub found_from : (seen : Seen) (asked : Terms) (fees : Charges) (terms : Terms) (first again costs : List Usable) (coming : List Cutoff)
     (by_price by_cost : List Usable) (cuts : List Cut) (most : ℕ) (found : Option Choice)
     → terms ≡ asked → AreRows seen.bids → AreRows seen.offers → IsPermutation (usable seen asked fees) by_price → IsByPrice by_price

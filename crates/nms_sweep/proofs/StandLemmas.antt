@@ -1,4 +1,4 @@
--- The legs stand in the order of the rows that they go to: by price, then by place.
+-- The legs are in the order of the rows to which they go: by price, then by place.
 use Rattle.std.proofs.Common.{ℕ, ◌≡◌, ◌<◌, false, List, [], ◌∷◌, map, Option, Some, None, ◌⊎◌, inl, inr, refl, ap, sym, ◌∙◌, subst, arith}
 use Rattle.std.specs.Prelude.{ℤ, ◌<ℤ◌}
 use Rattle.std.specs.List.Sorted.{IsPermutation, IsStrictlyIncreasing}
@@ -22,14 +22,14 @@ use Rattle.nms_sweep.proofs.LegLemmas.{GoesTo, goes_to_row, leg_to, with-leg}
 use Rattle.nms_sweep.proofs.OrderLemmas.{InOrder, in_order_from, none-in, then-false}
 use Rattle.nms_sweep.proofs.PlanLemmas.{apart_other, in_other, usable_apart, usable_is}
 
--- a row that stands ahead of another participant's
+-- a row that is ahead of another participant's
 record IsAhead (side : OrderSide) (row later : Usable) : Type 0 where
   pub rank : row.rank ≡ rank_of side row.price
   pub later_rank : later.rank ≡ rank_of side later.price
   pub differs : row.part ≡ later.part → ⊥
   pub behind : comes_before Price later row ≡ false
 
--- its leg stands before the other's
+-- its leg is before the other's
 stands : (side : OrderSide) (row later : Usable) (shares : ℕ) (leg : Leg) → IsAhead side row later → GoesTo later leg
     → StandsBefore side (leg_to row shares) leg
 unfolding leg_to

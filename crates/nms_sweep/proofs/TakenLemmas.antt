@@ -1,10 +1,10 @@
 -- What the cheapest shares of a pool cost is what the marginal says of them, less what it saves.
-use Rattle.std.proofs.Common.{ℕ, ◌≡◌, ◌≤◌, ◌+◌, ◌-◌, true, false, ◌&&◌, List, [], ◌∷◌, Some, None, ◌⊎◌, inl, inr, refl, ap, sym, ◌∙◌, subst}
+use Rattle.std.proofs.Common.{ℕ, ◌≡◌, ◌≤◌, ◌+◌, ◌-◌, true, false, ◌&&◌, List, [], ◌∷◌, Option, Some, None, ◌⊎◌, inl, inr, refl, ap, sym, ◌∙◌, subst}
 use Rattle.std.proofs.Common.{arith, min, nat_le}
 use Rattle.std.specs.Prelude.{ℤ, pos, ◌+ℤ◌, ◌-ℤ◌, ◌*ℤ◌, ◌≤ℤ◌}
 use Rattle.std.specs.Int.{int_max}
 use Rattle.std.specs.Option.{is_some, unwrap_or}
-use Rattle.std.proofs.lemmas.Bool.{cases_Bool, cond-false, false≢true}
+use Rattle.std.proofs.lemmas.Bool.{cases_Bool, cond-false, cond-true, false≢true}
 use Rattle.std.proofs.lemmas.Int.{ints, clamps}
 use Rattle.std.proofs.Math.IntN.{*ℤ-zero}
 use Rattle.nms_quote.specs.declared.certificate.Cut.{Cut}
@@ -34,7 +34,7 @@ dear-saves cutoff marginal row most (inl pooled) =
     rw (pooled, saved) (zero-times row.size)
 dear-saves cutoff marginal row most (inr out) = rw out refl
 
--- of no higher a cost, the difference
+-- the difference, if the cost is no higher
 cheap-saves : (cutoff marginal : ℤ) (row : Usable) → row.cost ≤ℤ marginal → (is_pooled cutoff row ≡ true) ⊎ (is_pooled cutoff row ≡ false)
     → row.cost *ℤ pos (pool_part cutoff row) +ℤ savings_part cutoff marginal row ≡ marginal *ℤ pos (pool_part cutoff row)
 cheap-saves cutoff marginal row most (inl pooled) =
@@ -140,6 +140,13 @@ taken_saves cutoff number last (row ∷ rows) ordered few =
         (later marginal (not_less cutoff (number - pool_part cutoff row) row.cost rows ordered.0 ordered.1) at.0
         (rest (omega (arith, at.0, few))))
 
+-- the walk ends
+pub share_here : (cutoff : ℤ) (number : ℕ) (last : ℤ) (row : Usable) (rows : List Usable) → has_last cutoff number row ≡ true
+    → share_cost cutoff number last (row ∷ rows) ≡ row.cost
+unfolding share_cost
+share_here cutoff number last row rows is =
+    cond-true (has_last cutoff number row) row.cost (share_cost cutoff (number - pool_part cutoff row) row.cost rows) is
+
 -- the walk goes on
 pub share_later : (cutoff : ℤ) (number : ℕ) (last : ℤ) (row : Usable) (rows : List Usable) → has_last cutoff number row ≡ false
     → (pool_part cutoff row ≤ number) × (share_cost cutoff number last (row ∷ rows)
@@ -181,7 +188,7 @@ cut_with price kind = record { price = price; kind = kind }
 -- ---- the cutoffs to come
 
 -- the one that is given was the first of them
-pub came : (coming : List Cutoff) (cutoff : Cutoff) (later : List Cutoff) → GivesNext coming (Some cutoff) later → coming ≡ cutoff ∷ later
+came : (coming : List Cutoff) (cutoff : Cutoff) (later : List Cutoff) → GivesNext coming (Some cutoff) later → coming ≡ cutoff ∷ later
 came [] cutoff later is = absurd (false≢true (sym (ap is_some is.0)))
 came (first ∷ coming) cutoff later is = step (some-same cutoff first is.0)
   where
@@ -191,7 +198,16 @@ came (first ∷ coming) cutoff later is = step (some-same cutoff first is.0)
     step : cutoff ≡ first → first ∷ coming ≡ cutoff ∷ later
     step e = ap (λ (one : Cutoff). one ∷ coming) (sym e) ∙ ap (λ (more : List Cutoff). cutoff ∷ more) (sym is.1)
 
+-- so too if it is known later which one was given
+pub came_as : (coming : List Cutoff) (given : Option Cutoff) (cutoff : Cutoff) (later : List Cutoff) → given ≡ Some cutoff
+    → GivesNext coming given later → coming ≡ cutoff ∷ later
+came_as coming given cutoff later is next = came coming cutoff later (subst (λ (one : Option Cutoff). GivesNext coming one later) is next)
+
 -- if none is given, there was none
-pub none_came : (coming later : List Cutoff) → GivesNext coming None later → coming ≡ []
+none_came : (coming later : List Cutoff) → GivesNext coming None later → coming ≡ []
 none_came [] later is = refl
 none_came (first ∷ coming) later is = absurd (false≢true (ap is_some is.0))
+
+pub none_came_as : (coming : List Cutoff) (given : Option Cutoff) (later : List Cutoff) → given ≡ None → GivesNext coming given later
+    → coming ≡ []
+none_came_as coming given later is next = none_came coming later (subst (λ (one : Option Cutoff). GivesNext coming one later) is next)

@@ -1,5 +1,5 @@
--- Where a row stands at a cutoff and a marginal: swept; in the pool, below the marginal, at it or above it; or beyond
--- the cutoff. What it gets, and what that costs.
+-- The place of a row at a cutoff and a marginal: swept; in the pool, below the marginal, at it or above it; or beyond the
+-- cutoff. Also what it gets, and what that costs.
 use Rattle.std.proofs.Common.{ℕ, ◌≡◌, ◌<◌, ◌≤◌, ◌+◌, Bool, true, false, ◌⊎◌, inl, inr, refl, ap, arith, min}
 use Rattle.std.specs.Prelude.{ℤ, pos, ◌+ℤ◌, ◌-ℤ◌, ◌*ℤ◌, ◌<ℤ◌, ◌≤ℤ◌, not, if◌then◌else◌}
 use Rattle.std.specs.Int.{int_max}
@@ -185,7 +185,7 @@ level_own cutoff row pooled =
       pool_tiers cutoff row.cost row (omega (arith, ints)) (tier cutoff row.cost row),
     )
 
--- ---- a row by its price alone
+-- ---- a row only by its price
 
 far-step : (cutoff : ℤ) (row : Usable) → cutoff ≤ℤ row.rank → Sweeps cutoff row ⊎ (Pools cutoff row ⊎ Passes cutoff row)
     → swept_part cutoff row ≡ 0

@@ -1,6 +1,6 @@
--- Which of the best plans is chosen. At a cutoff, the protected rows at better prices in full, then the pool by unit
--- cost, then better price, then place. Of the cutoffs, the one of least cost; of equals, the one at the best price.
--- This product's own rule.
+-- Which of the best plans is chosen. At a cutoff, the protected rows at better prices in full, then the pool by unit cost, then
+-- better price, then place. The cutoff is the one of least cost; if several have it, the one at the best price. This product's
+-- own rule.
 use Rattle.std.specs.Prelude.{ℕ, ℤ, pos, neg_ℤ, ◌-◌, ◌^◌, ◌==◌, ◌≤ℤ◌, ◌&&◌, Bool, false, not, min, nat_le, nat_lt, List, [], ◌∷◌, Option}
 use Rattle.std.specs.Prelude.{Some, None, if◌then◌else◌}
 use Rattle.std.specs.Int.RustNames.{int_lt}

@@ -6,7 +6,9 @@ use Rattle.nms_rules.specs.declared.TheConstants.{MOST_SIZE}
 use Rattle.nms_rules.specs.Assignment.{amount, total}
 use Rattle.nms_rules.specs.Cutoff.{swept, swept_cost}
 use Rattle.nms_rules.specs.Usable.{Usable, rank_of}
+use Rattle.nms_sweep.specs.Cutoffs.{cutoffs_of}
 use Rattle.nms_sweep.specs.Order.{IsByPrice}
+use Rattle.nms_sweep.specs.declared.cutoffs.Cutoff.{Cutoff}
 use Rattle.nms_sweep.specs.declared.cutoffs.Passed.{Passed}
 
 -- how many shares a protected row has, and what they cost
@@ -44,3 +46,7 @@ pub record IsPassed (rows : List Usable) (passed : Passed) : Type 0 where
   pub within : passed.rows ≤ length rows
   pub counted : IsCounted (take passed.rows rows) passed
   pub next : IsSweptNext rows passed.protected passed.cost (drop passed.rows rows)
+
+-- the cutoffs behind the rows that were passed
+abbrev pub coming : List Usable → Passed → List Cutoff
+coming rows passed = cutoffs_of rows (drop passed.rows rows)

@@ -10,13 +10,13 @@ use nms_units::Money;
 pub(crate) struct Choice {
     /// The rank of its price.
     pub(crate) cutoff: Rank,
-    /// What the last share costs there, in nanodollars.
+    /// The cost of the last share there, in nanodollars.
     pub(crate) marginal: Money,
-    /// What all shares cost, in nanodollars.
+    /// The cost of all shares, in nanodollars.
     pub(crate) cost: Money,
 }
 
-/// The cutoff of less cost; the first one if they cost alike.
+/// The cutoff of less cost; the first one if they cost the same.
 pub(crate) fn cheaper(best: Option<Choice>, other: Option<Choice>) -> Option<Choice>
     ensures { result ≡ cheaper best other }
 {
@@ -33,7 +33,7 @@ pub(crate) fn cheaper(best: Option<Choice>, other: Option<Choice>) -> Option<Cho
     }
 }
 
-/// What is paid at the chosen cutoff, with fees.
+/// The cost at the chosen cutoff, with fees.
 pub(crate) fn cost_chosen(choice: &Option<Choice>) -> Money
     ensures { result ≡ cost_chosen choice.now }
 {

@@ -1,59 +1,66 @@
-//! The cuts of a certificate, and the best of the cutoffs that they are made at: `specs/Choice`.
+//! The cuts of a certificate, and the best of their cutoffs: `specs/Choice`.
 ghost use Rattle.std.specs.Prelude.{◌≡◌, [], ◌≤◌, ◌^◌, ◌≤ℤ◌, All, None, length, map, neg_ℤ, pos};
 ghost use Rattle.nms_rules.specs.Usable.{rank_of};
 ghost use Rattle.nms_sweep.specs.Choice.{IsInRange, candidate, chosen, cut_by, kind_by};
 ghost use Rattle.nms_sweep.specs.Cutoffs.{IsCutoffOf};
 ghost use Rattle.nms_sweep.specs.Order.{IsByCost};
+ghost use Rattle.nms_sweep.specs.Passed.{IsPassed, coming};
 
+use crate::by_cost::ByCost;
 use crate::choice::{Choice, cheaper};
-use crate::cutoffs::{Cutoff, Cutoffs};
+use crate::cutoffs::{Cutoff, Passed, next_of};
+use crate::plan_room::PlanRoom;
 use crate::priced_row::PricedRow;
 use crate::taking::take_cheapest;
 use nms_board::MOST_ROWS;
-use nms_quote::{Certificate, Cut, CutKind, OrderSide};
+use nms_quote::{Cut, CutKind, OrderSide};
 use nms_rules::Rank;
 use nms_units::MOST_SHARES;
 
-/// Puts a cut for each cutoff to come into an empty certificate, if n shares can be filled. It returns the cutoff
-/// of least cost, of equals the best price; `None` if no cutoff can be filled at. The rows come in the order of their
-/// costs; they need not have those at prices where more must be swept than can be filled.
-pub(crate) fn put_cuts(
+/// Puts a cut for each cutoff behind the rows that were passed into room without cuts, if n shares can be filled. It returns the
+/// cutoff of least cost, of equals the best price; `None` if no cutoff can be filled at. Those in the order of their costs need
+/// not have the rows at prices where more must be swept than can be filled.
+pub(crate) fn put_cuts<W: PlanRoom>(
     side: OrderSide,
-    by_cost: &[PricedRow],
+    by_cost: &ByCost,
     most: u64,
-    cutoffs: &mut Cutoffs,
-    cuts: &mut Certificate,
+    rows: &[PricedRow],
+    passed: Passed,
+    out: &mut W,
 ) -> Option<Choice>
-    requires empty { cuts.old.items ≡ [] }
-    requires few { length cutoffs.old.to_come ≤ MOST_ROWS }
-    requires rows { length by_cost.now ≤ MOST_ROWS }
+    requires filled { W.IsFilled out.old }
+    requires empty { W.cuts out.old ≡ [] }
+    requires passed { IsPassed rows.now passed }
+    requires few { length (coming rows.now passed) ≤ MOST_ROWS }
+    requires costs { length by_cost.now ≤ MOST_ROWS }
     requires most { most ≤ MOST_SHARES }
     requires ordered { IsByCost by_cost.now }
-    requires sums { All (λ cutoff. cutoff.swept ≤ most → IsCutoffOf side by_cost.now cutoff) cutoffs.old.to_come }
-    ensures cuts { cuts.new.items ≡ map (cut_by side by_cost.now most) cutoffs.old.to_come }
-    ensures range { All (λ cut. IsInRange cut.kind) cuts.new.items }
-    ensures best { result ≡ chosen side by_cost.now most None (map (cut_by side by_cost.now most) cutoffs.old.to_come) }
-    ensures rows { cutoffs.new.rows ≡ cutoffs.old.rows }
+    requires sums { All (λ cutoff. cutoff.swept ≤ most → IsCutoffOf side by_cost.now cutoff) (coming rows.now passed) }
+    ensures filled { W.IsFilled out.new }
+    ensures legs { W.legs out.new ≡ W.legs out.old }
+    ensures cuts { W.cuts out.new ≡ map (cut_by side by_cost.now most) (coming rows.now passed) }
+    ensures range { All (λ cut. IsInRange cut.kind) (W.cuts out.new) }
+    ensures best { result ≡ chosen side by_cost.now most None (map (cut_by side by_cost.now most) (coming rows.now passed)) }
 {
+    let mut passed = passed;
     let mut best = None;
-    while let Some(cutoff) = cutoffs.next() {
+    loop {
+        let (next, behind) = next_of(rows, passed);
+        let Some(cutoff) = next else {
+            return best;
+        };
+        passed = behind;
         let (kind, offer) = tried(side, by_cost, most, &cutoff);
         best = cheaper(best, offer);
-        cuts.push(Cut {
+        out.put_cut(Cut {
             price: cutoff.price,
             kind,
         });
     }
-    best
 }
 
 /// What the cut at a cutoff says, and what the cutoff offers, if n shares can be filled.
-fn tried(
-    side: OrderSide,
-    by_cost: &[PricedRow],
-    most: u64,
-    cutoff: &Cutoff,
-) -> (CutKind, Option<Choice>)
+fn tried(side: OrderSide, by_cost: &ByCost, most: u64, cutoff: &Cutoff) -> (CutKind, Option<Choice>)
     requires rows { length by_cost.now ≤ MOST_ROWS }
     requires most { most ≤ MOST_SHARES }
     requires ordered { IsByCost by_cost.now }

@@ -1,4 +1,4 @@
-//! The law above accepted plans: `specs/Bounds`. No answer uses these functions: they are here for their contracts.
+//! The law about accepted plans: `specs/Bounds`. No answer uses these functions, which are here for their contracts.
 ghost use Rattle.std.specs.Prelude.{◌*◌, ◌≤ℤ◌, neg_ℤ, pos, List};
 ghost use Rattle.nms_quote.specs.declared.certificate.Cut.{Cut};
 ghost use Rattle.nms_board.specs.View.{Seen};
@@ -9,8 +9,8 @@ ghost use Rattle.nms_sweep.specs.Bounds.{IsWithinBounds, most_unit};
 use nms_fee_book::FeeBook;
 use nms_quote::{Leg, Order, OrderSide, Plan};
 
-/// A plan that is accepted for an order with its certificate fills at most 999,999,999 shares. Each costs at most 10^16
-/// + 10^7 nanodollars, paid or received; and each marginal is within 10^18.
+/// A plan that is accepted for an order with its certificate fills at most 999,999,999 shares. Each costs at most 10^16 + 10^7
+/// nanodollars, paid or received. Each marginal is between -10^18 and 10^18.
 pub fn an_accepted_plan_is_within_bounds(order: &Order, fees: &FeeBook, plan: &Plan)
     ensures { (seen : Seen) (cuts : List Cut) → IsAccepted seen order.now fees.now plan.now cuts → IsWithinBounds plan.now cuts }
 {

@@ -6,61 +6,67 @@ ghost use Rattle.nms_sweep.specs.Choice.{below, below_part, is_below, is_level, 
 ghost use Rattle.nms_sweep.specs.Order.{IsByPrice, StopAt};
 
 use crate::choice::Choice;
+use crate::plan_room::PlanRoom;
 use crate::priced_row::PricedRow;
-use arrayvec::ArrayVec;
 use nms_board::MOST_ROWS;
 use nms_quote::Leg;
 use nms_rules::{MOST_SIZE, Rank};
 use nms_units::{MOST_SHARES, Money, Shares};
 
-/// Puts the legs at the chosen cutoff into an empty list, best price first, then by place; none if nothing can be
+/// Puts the legs at the chosen cutoff into room without legs, best price first, then by place; none if nothing can be
 /// filled. The rows come in the order of their prices.
-pub(crate) fn put_legs(
+pub(crate) fn put_legs<W: PlanRoom>(
     rows: &[PricedRow],
     most: u64,
     choice: &Option<Choice>,
-    legs: &mut ArrayVec<Leg, MOST_ROWS>,
+    out: &mut W,
 )
+    requires filled { W.IsFilled out.old }
     requires rows { length rows.now ≤ MOST_ROWS }
-    requires empty { legs.old.items ≡ [] }
+    requires empty { W.legs out.old ≡ [] }
     requires ordered { IsByPrice rows.now }
     requires few { sum_of (legs_chosen rows.now most choice.now rows.now) ≤ MOST_SHARES }
-    ensures { legs.new.items ≡ legs_chosen rows.now most choice.now rows.now }
+    ensures filled { W.IsFilled out.new }
+    ensures legs { W.legs out.new ≡ legs_chosen rows.now most choice.now rows.now }
+    ensures cuts { W.cuts out.new ≡ W.cuts out.old }
 {
     if let Some(choice) = choice {
         let (before, rows) = taken_before(rows, choice.cutoff, choice.marginal);
         let left = most.saturating_sub(before);
-        put_legs_at(choice.cutoff, choice.marginal, left, rows, legs);
+        put_legs_at(choice.cutoff, choice.marginal, left, rows, out);
     }
 }
 
 /// As `put_legs`, but at a cutoff, with n shares left at the marginal.
 #[tactic(auto, unfolding(crate::specs::Choice::legs_of))]
-fn put_legs_at(
+fn put_legs_at<W: PlanRoom>(
     cutoff: Rank,
     marginal: Money,
     left: u64,
     rows: &[PricedRow],
-    legs: &mut ArrayVec<Leg, MOST_ROWS>,
+    out: &mut W,
 )
+    requires filled { W.IsFilled out.old }
     requires rows { length rows.now ≤ MOST_ROWS }
-    requires empty { legs.old.items ≡ [] }
+    requires empty { W.legs out.old ≡ [] }
     requires few { sum_of (legs_of cutoff marginal left rows.now) ≤ MOST_SHARES }
-    ensures { legs.new.items ≡ legs_of cutoff marginal left rows.now }
+    ensures filled { W.IsFilled out.new }
+    ensures legs { W.legs out.new ≡ legs_of cutoff marginal left rows.now }
+    ensures cuts { W.cuts out.new ≡ W.cuts out.old }
 {
     let mut left = left;
     let mut behind = rows;
     while let Some((row, more)) = behind.split_first() {
         let shares = share_of(cutoff, marginal, left, row);
         if 0 < shares {
-            legs.push(leg(row, shares));
+            out.put_leg(leg(row, shares));
         }
         left = left_after(cutoff, marginal, left, row);
         behind = more;
     }
 }
 
-/// A leg to a row.
+/// The leg that goes to a row.
 fn leg(row: &PricedRow, shares: u64) -> Leg
     requires { shares ≤ MOST_SHARES }
     ensures { result ≡ record { part = row.now.part; price = row.now.price; shares = shares } }
@@ -86,8 +92,8 @@ fn is_level(cutoff: Rank, marginal: Money, row: &PricedRow) -> bool
     row.is_pooled(cutoff) && !(row.unit_cost() < marginal) && !(marginal < row.unit_cost())
 }
 
-/// How many shares are taken before those at the marginal: what must be swept, and what costs less. It returns the rows
-/// at the cutoff or better with them, since no other one has such shares.
+/// How many shares are taken before those at the marginal: those that must be swept, and those that cost less. It also returns
+/// the rows at the cutoff or better, because no other row has such shares.
 #[tactic(auto, using(crate::proofs::SumFacts::total_none, crate::proofs::SumFacts::total_more))]
 fn taken_before(rows: &[PricedRow], cutoff: Rank, marginal: Money) -> (u64, &[PricedRow])
     requires few { length rows.now ≤ MOST_ROWS }
@@ -132,7 +138,7 @@ fn below_part(row: &PricedRow, cutoff: Rank, marginal: Money) -> u64
     }
 }
 
-/// What a row gets, if n shares are left to take at the marginal.
+/// How many shares a row gets, if n shares are left to take at the marginal.
 fn share_of(cutoff: Rank, marginal: Money, left: u64, row: &PricedRow) -> u64
     ensures share { result ≡ share_of cutoff marginal left row.now }
     ensures within { result ≤ MOST_SIZE }
@@ -147,7 +153,7 @@ fn share_of(cutoff: Rank, marginal: Money, left: u64, row: &PricedRow) -> u64
     }
 }
 
-/// What is left to take at the marginal after a row.
+/// How many shares are left to take at the marginal after a row.
 fn left_after(cutoff: Rank, marginal: Money, left: u64, row: &PricedRow) -> u64
     ensures { result ≡ left_after cutoff marginal left row.now }
 {

@@ -1,12 +1,15 @@
-//! The planner of intermarket sweep orders: it finds a lawful plan that fills most, and of those the one of least cost
-//! with fees. It also writes the certificate that shows it.
+//! The planner of intermarket sweep orders. It finds a lawful plan that fills the most shares, and among those one of least
+//! cost, fees included. It also writes the certificate that shows it.
 #![tactic(auto)]
 
+mod by_cost;
 mod choice;
 mod cutoffs;
 mod cutting;
 mod laws;
 mod legs;
+mod made;
+mod plan_room;
 mod planner;
 mod planning;
 mod priced_row;
@@ -15,5 +18,6 @@ mod taking;
 
 pub use cutoffs::{Cutoff, Cutoffs};
 pub use laws::an_accepted_plan_is_within_bounds;
+pub use plan_room::{Outcome, PlanRoom};
 pub use planner::Planner;
 pub use planning::{plan, plan_into, plan_on};

@@ -10,32 +10,25 @@ ghost use Rattle.nms_sweep.specs.Filling.{AreExact, FillsInOrder};
 ghost use Rattle.nms_sweep.specs.Order.{AreInOrder};
 
 use crate::cutoffs::Cutoffs;
-use crate::planning::fill;
-use crate::priced_row::PricedRow;
-use arrayvec::ArrayVec;
-use nms_board::{Boards, MOST_ROWS};
+use crate::made::Made;
+use nms_board::Boards;
 use nms_fee_book::FeeBook;
 use nms_quote::{Certificate, Order, OrderSide, PartSet, Plan, Sym};
-use nms_units::{Money, Price, Shares};
+use nms_units::{Price, Shares};
 use std::marker::Model;
 
-/// A planner for a caller who plans one order after another: its rooms are made once, and an order clears and moves
-/// none of them.
+/// A planner for a caller who plans one order after another. Its rooms are made once, and no order clears or moves them.
 pub struct Planner {
     cutoffs: Cutoffs,
-    by_cost: ArrayVec<PricedRow, MOST_ROWS>,
-    plan: Plan,
-    cuts: Certificate,
+    made: Made,
 }
 
-/// A `Drop` of its own: a function that holds one then has one call at each exit, and not one for each part (docs/GATE.md).
+/// It has its own `Drop`, so that a function that holds one has one call at each exit, and not one for each part (docs/GATE.md).
 impl Drop for Planner {
     fn drop(self) {
         let Planner {
             cutoffs: _,
-            by_cost: _,
-            plan: _,
-            cuts: _,
+            made: _,
         } = self;
     }
 }
@@ -45,11 +38,11 @@ impl Model for Planner {
 
     ghost Value = { Planned };
 
-    ghost view = { λ p. record { plan = p.plan; cuts = p.cuts.items } };
+    ghost view = { λ p. record { plan = p.made.plan; cuts = p.made.cuts.items } };
 }
 
 impl Planner {
-    /// A planner that has planned nothing: its plan fills nothing. Takes no memory.
+    /// A planner that has planned nothing, so that its plan fills nothing. Takes no memory.
     pub fn new() -> Self
         ensures filled { result.plan.filled ≡ 0 }
         ensures legs { result.plan.legs.items ≡ [] }
@@ -65,20 +58,12 @@ impl Planner {
         );
         Planner {
             cutoffs: Cutoffs::none(),
-            by_cost: ArrayVec::new_in(()),
-            plan: Plan {
-                version: 0,
-                order: order.unwrap(),
-                legs: ArrayVec::new_in(()),
-                filled: 0,
-                cost: Money::new(0),
-            },
-            cuts: ArrayVec::new_in(()),
+            made: Made::of(&order.unwrap()),
         }
     }
 
-    /// As `plan`, but on what a look at a board shows of the order's symbol. The plan and its certificate replace the ones
-    /// before. The rows are read off the board, with no view made. Takes no memory.
+    /// As `plan`, but on what a look at a board shows for the order's symbol. The plan and its certificate replace the ones
+    /// before. The rows are read off the board, without making a view. Takes no memory.
     pub fn plan_on(&mut self, board: &Boards, order: &Order, fees: &FeeBook)
         requires { order.now.sym < length board.now.sizes.lots }
         ensures lawful { breach_of (seen_on board.now order.now.sym) order.now fees.now self.new.plan ≡ None }
@@ -92,28 +77,20 @@ impl Planner {
         let version = board.applied();
         board.shows_rows(order.sym);
         self.cutoffs.set_on(board, order, fees);
-        self.by_cost.clear();
-        fill(
-            version,
-            order,
-            &mut self.cutoffs,
-            &mut self.by_cost,
-            &mut self.plan,
-            &mut self.cuts,
-        );
+        self.made.set(version, order, &self.cutoffs);
     }
 
     /// The plan of the last order.
     pub fn plan(&self) -> &Plan
         ensures { result.now ≡ self.now.plan }
     {
-        &self.plan
+        &self.made.plan
     }
 
-    /// The certificate.
+    /// The certificate of the last order's plan.
     pub fn certificate(&self) -> &Certificate
         ensures { result.now.items ≡ self.now.cuts }
     {
-        &self.cuts
+        &self.made.cuts
     }
 }

@@ -11,13 +11,13 @@ use nms_rules::{Rank, UsableRow};
 use nms_units::{Money, Price};
 use std::marker::Model;
 
-/// A quotation that an order may trade with, as `UsableRow` has it. A share costs at most 10^16 + 10^7 nanodollars
-/// either way, so 64 bits hold it. The wide fields stand first: a row takes 32 bytes.
+/// A quotation that an order may trade with, as `UsableRow` has it. A share costs at most 10^16 + 10^7 nanodollars either way,
+/// so 64 bits hold it. The wide fields come first, so that a row takes 32 bytes.
 #[derive(Clone, Copy)]
 pub(crate) struct PricedRow {
     /// The rank of its price.
     pub(crate) rank: Rank,
-    /// In 1/10,000 dollar.
+    /// The price, in 1/10,000 dollar.
     pub(crate) price: Price,
     /// What a share costs there with the fee, in nanodollars.
     pub(crate) cost: i64,
@@ -96,22 +96,22 @@ impl PricedRow {
         Money::new(i128::from(self.cost))
     }
 
-    /// Whether it must be swept before a price of that rank may be traded at: it is protected and at a better price
-    /// (17 CFR 242.600, "intermarket sweep order").
+    /// Whether the row must be swept before the order may trade at a price of that rank. It must if it is protected and at a
+    /// better price (17 CFR 242.600, "intermarket sweep order").
     pub(crate) fn is_swept(&self, cutoff: Rank) -> bool
         ensures { result ≡ is_swept cutoff self.now }
     {
         self.protected && self.rank < cutoff
     }
 
-    /// Whether it is at a worse price than one of that rank.
+    /// Whether the row is at a worse price than one of that rank.
     pub(crate) fn is_beyond(&self, cutoff: Rank) -> bool
         ensures { result ≡ int_lt cutoff self.now.rank }
     {
         cutoff < self.rank
     }
 
-    /// Whether it is in the pool at a price of that rank: it is at that price or better, and need not be swept.
+    /// Whether the row is in the pool at a price of that rank. It is if it is at that price or better, and need not be swept.
     pub(crate) fn is_pooled(&self, cutoff: Rank) -> bool
         ensures { result ≡ is_pooled cutoff self.now }
     {

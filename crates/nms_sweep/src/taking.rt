@@ -1,27 +1,27 @@
-//! The cheapest shares of a pool: `specs/Taken`.
+//! Taking the cheapest shares of a pool: `specs/Taken`.
 ghost use Rattle.std.specs.Prelude.{◌≡◌, ◌≤◌, ◌^◌, ◌+ℤ◌, ◌*ℤ◌, ◌≤ℤ◌, length, neg_ℤ, pos};
 ghost use Rattle.nms_rules.specs.Cutoff.{pool_part};
 ghost use Rattle.nms_sweep.specs.Choice.{has_last, share_cost};
 ghost use Rattle.nms_sweep.specs.Taken.{taken_cost};
 
+use crate::by_cost::ByCost;
 use crate::priced_row::PricedRow;
 use nms_board::MOST_ROWS;
 use nms_rules::{MOST_SIZE, Rank};
 use nms_units::{MOST_SHARES, Money};
 
-/// What n shares of a pool cost, the cheapest first.
+/// The cost of n shares of a pool, the cheapest first.
 #[derive(Clone, Copy)]
 pub(crate) struct Taken {
-    /// What the last of them costs with its fee, in nanodollars; if none, the cost of the cheapest.
+    /// The cost of the last of them with its fee, in nanodollars. If there are none, the cost of the cheapest.
     pub(crate) marginal: Money,
-    /// What all of them cost with fees, in nanodollars.
+    /// The cost of all of them with fees, in nanodollars.
     pub(crate) cost: Money,
 }
 
-/// What n shares of the pool at a cutoff cost, the cheapest first, in one pass. The rows come in the order of
-/// their costs.
+/// The cost of n shares of the pool at a cutoff, the cheapest first, in one pass. The rows come in the order of their costs.
 #[tactic(auto, unfolding(crate::specs::Choice::share_cost, crate::specs::Taken::taken_cost))]
-pub(crate) fn take_cheapest(by_cost: &[PricedRow], cutoff: Rank, number: u64) -> Taken
+pub(crate) fn take_cheapest(by_cost: &ByCost, cutoff: Rank, number: u64) -> Taken
     requires rows { length by_cost.now ≤ MOST_ROWS }
     requires number { number ≤ MOST_SHARES }
     ensures marginal { result.marginal ≡ share_cost cutoff number (pos 0) by_cost.now }
@@ -36,15 +36,14 @@ pub(crate) fn take_cheapest(by_cost: &[PricedRow], cutoff: Rank, number: u64) ->
         marginal: Money::new(0),
         cost: Money::new(0),
     };
-    let mut behind = by_cost;
-    while let Some((row, more)) = behind.split_first() {
+    for at in 0..by_cost.len() {
+        let row = by_cost.row(at);
         if has_last(row, cutoff, left) {
             return with_shares(taken, row, left);
         }
         let part = pool_part(row, cutoff);
         taken = with_shares(taken, row, part);
         left = left.saturating_sub(part);
-        behind = more;
     }
     taken
 }
@@ -56,7 +55,7 @@ fn has_last(row: &PricedRow, cutoff: Rank, number: u64) -> bool
     row.is_pooled(cutoff) && number <= u64::from(row.size)
 }
 
-/// What is taken with n shares of a row.
+/// The state after n shares of a row are taken.
 fn with_shares(taken: Taken, row: &PricedRow, shares: u64) -> Taken
     requires shares { shares ≤ MOST_SIZE }
     requires low { neg_ℤ (pos (2 ^ 110)) ≤ℤ taken.cost }

@@ -1,4 +1,4 @@
--- `put_cuts`: the places up to here are written; those past the last cut in a loop of their own.
+-- `put_cuts`: the places up to here are written. Those past the last cut are written in another loop.
 use Rattle.std.proofs.Common.{◌≡◌, ◌<◌, ℕ, Some, length, slice_get}
 use Rattle.nms_calls.specs.PlanNumbers.{cut_at}
 use Rattle.nms_calls.proofs.plan_writing.put_cuts.Given as goal

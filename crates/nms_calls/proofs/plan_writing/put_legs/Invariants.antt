@@ -1,4 +1,4 @@
--- `put_legs`: the places up to here are written; those past the last leg in a loop of their own.
+-- `put_legs`: the places up to here are written. Those past the last leg are written in another loop.
 use Rattle.std.proofs.Common.{◌≡◌, ◌<◌, ℕ, Some, length, slice_get}
 use Rattle.nms_calls.specs.PlanNumbers.{leg_at}
 use Rattle.nms_calls.proofs.plan_writing.put_legs.Given as goal

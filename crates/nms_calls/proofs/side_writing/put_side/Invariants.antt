@@ -1,4 +1,4 @@
--- `put_side`: the places up to here are written, and as many rows were counted.
+-- `put_side`: the places up to here are written, and the same number of rows was counted.
 use Rattle.std.proofs.Common.{◌≡◌, ◌<◌, ℕ, length, min}
 use Rattle.nms_board.specs.Ranking.{ranked_at}
 use Rattle.nms_board.specs.Shown.{rows_held}

@@ -1,4 +1,4 @@
--- `read_fields`: the fields so far stand in the row.
+-- `read_fields`: the fields so far are in the row.
 use Rattle.std.proofs.Common.{◌≡◌, [], map}
 use Rattle.csv.specs.Records.{fields_of, partial_of}
 use Rattle.nms_calls.proofs.text_calls.read_fields.Given as goal

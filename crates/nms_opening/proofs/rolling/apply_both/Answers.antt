@@ -1,5 +1,5 @@
 -- `apply_both`: symbols that both have stay alike; a change that the next board does not take leaves them.
-use Rattle.std.proofs.Common.{◌≡◌, subst, sym}
+use Rattle.std.proofs.Common.{subst, sym}
 use Rattle.nms_board.specs.Cells.{Board, after}
 use Rattle.nms_opening.specs.Rolling.{IsCarrying}
 use Rattle.nms_opening.proofs.RollingFacts.{both_taken, one_taken}

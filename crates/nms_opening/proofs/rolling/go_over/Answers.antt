@@ -1,5 +1,5 @@
 -- `go_over`: the board that takes over has every symbol, so it shows each one alike.
-use Rattle.std.proofs.Common.{◌≡◌, ◌≤◌, arith, length, ltb-false, subst, sym}
+use Rattle.std.proofs.Common.{◌≤◌, arith, length, ltb-false, subst, sym}
 use Rattle.nms_board.specs.Cells.{Board}
 use Rattle.nms_opening.specs.Alike.{ShowAlike}
 use Rattle.nms_opening.proofs.rolling.go_over.Goals as goal

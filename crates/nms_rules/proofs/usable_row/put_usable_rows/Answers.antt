@@ -1,5 +1,5 @@
 -- `put_usable_rows`: its loop begins with no row, of rows as a side shows them, by `side_rows`; a turn has one row more, by
--- `held_more`; all usable rows stand when no row is left, by `held_all`, and when the next one is beyond the limit, by
+-- `held_more`; all usable rows are there when no row is left, by `held_all`, and when the next one is beyond the limit, by
 -- `held_beyond`; they are best price first, by `first_fall`.
 use Rattle.std.proofs.Common.{ℕ, ◌≡◌, ◌≤◌, ◌++◌, [], ◌∷◌, List, Some, true, length, slice_get, ap, sym, ◌∙◌, subst, arith}
 use Rattle.std.proofs.lemmas.List.Sorted.{IsPermutation-refl}

@@ -10,7 +10,7 @@ use Rattle.nms_sweep.proofs.FrontLemmas.{front_legs}
 use Rattle.nms_sweep.proofs.legs.put_legs.Goals as goal
 
 pub put_legs_at-requires-clause-few : goal.put_legs_at-requires-clause-few
-put_legs_at-requires-clause-few c =
+put_legs_at-requires-clause-few g c =
     let rows : List Usable = c.args.rows.now in
     let some : List Usable = c.taken_before-before.result.1.now in
     let choice : Choice = c.in-Some.choice in
@@ -21,13 +21,13 @@ put_legs_at-requires-clause-few c =
     ∙ ap (λ (found : Option Choice). legs_chosen rows c.args.most found rows) (sym c.in-Some.is) in
     subst (λ (legs : List Leg). sum_of legs ≤ MOST_SHARES) (sym same) c.requires.few
 
-pub returns-in-Some : goal.returns-in-Some
-returns-in-Some c =
+pub returns-in-Some-clause-legs : goal.returns-in-Some-clause-legs
+returns-in-Some-clause-legs g c =
     let rows : List Usable = c.args.rows.now in
     let some : List Usable = c.taken_before-before.result.1.now in
     let choice : Choice = c.in-Some.choice in
     let left = c.saturating_sub-left.result in
-    c.put_legs_at.ensures
+    c.put_legs_at.ensures.legs
     ∙ (front_legs choice.cutoff choice.marginal c.args.most c.taken_before-before.result.0 left rows some c.taken_before-before.ensures.stop
     c.taken_before-before.ensures.sum c.saturating_sub-left.ensures
     ∙ ap (λ (found : Option Choice). legs_chosen rows c.args.most found rows) (sym c.in-Some.is))

@@ -1,8 +1,8 @@
--- plan_into: the rows of the view are its table, by what Cutoffs::new says, and all its clauses are what fill says of it.
+-- plan_into: the rows of the view are its table, by what Cutoffs::new says.
 use Rattle.nms_sweep.proofs.planning.plan_into.Goals as goal
 
 pub fill-requires-clause-table : goal.fill-requires-clause-table
-fill-requires-clause-table c = (
+fill-requires-clause-table g c = (
   c.args.view.now,
   c.args.fees.now,
   record {
@@ -17,9 +17,9 @@ fill-requires-clause-table c = (
   },
 )
 
-pub returns : goal.returns
-returns c =
-    let is = c.fill.ensures c.args.view.now c.args.fees.now (record {
+pub returns-clause-planned : goal.returns-clause-planned
+returns-clause-planned g c =
+    c.fill.ensures.planned c.args.view.now c.args.fees.now (record {
       version = c.version-version.ensures.version;
       sym = c.requires;
       bids = c.version-version.ensures.bids;
@@ -28,13 +28,4 @@ returns c =
       ordered = c.new-cutoffs.ensures.ordered;
       cutoffs = c.new-cutoffs.ensures.cutoffs;
       all = c.new-cutoffs.ensures.all;
-    }) in
-    record {
-      lawful = is.lawful;
-      most = is.most;
-      accepted = is.accepted;
-      optimal = is.optimal;
-      ordered = is.ordered;
-      filling = is.filling;
-      exact = is.exact;
-    }
+    })

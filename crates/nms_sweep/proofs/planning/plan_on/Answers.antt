@@ -1,5 +1,4 @@
--- plan_on: what the board shows of the order's symbol is the table, by what set_on says, and all its clauses are what fill says
--- of it.
+-- plan_on: what the board shows of the order's symbol is the table, by what set_on says.
 use Rattle.std.proofs.Common.{refl, subst}
 use Rattle.nms_quote.specs.Terms.{Terms}
 use Rattle.nms_quote.specs.declared.side_quote.Side.TheVariants.{Bid, Offer}
@@ -8,7 +7,7 @@ use Rattle.nms_board.specs.View.{AreRows}
 use Rattle.nms_sweep.proofs.planning.plan_on.Goals as goal
 
 pub fill-requires-clause-table : goal.fill-requires-clause-table
-fill-requires-clause-table c = (
+fill-requires-clause-table g c = (
   seen_on c.args.board.now c.args.order.now.sym,
   c.args.fees.now,
   record {
@@ -23,9 +22,9 @@ fill-requires-clause-table c = (
   },
 )
 
-pub returns : goal.returns
-returns c =
-    let is = c.fill.ensures (seen_on c.args.board.now c.args.order.now.sym) c.args.fees.now (record {
+pub returns-clause-planned : goal.returns-clause-planned
+returns-clause-planned g c =
+    c.fill.ensures.planned (seen_on c.args.board.now c.args.order.now.sym) c.args.fees.now (record {
       version = c.applied-version.ensures.count;
       sym = refl;
       bids = subst (λ (one : Terms). AreRows (rows_held c.args.board.now one.sym Bid)) c.order.view_is c.shows_rows.ensures.bids;
@@ -34,13 +33,4 @@ returns c =
       ordered = c.set_on.ensures.ordered;
       cutoffs = c.set_on.ensures.cutoffs;
       all = c.set_on.ensures.all;
-    }) in
-    record {
-      lawful = is.lawful;
-      most = is.most;
-      accepted = is.accepted;
-      optimal = is.optimal;
-      ordered = is.ordered;
-      filling = is.filling;
-      exact = is.exact;
-    }
+    })

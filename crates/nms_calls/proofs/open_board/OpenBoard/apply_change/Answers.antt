@@ -1,4 +1,5 @@
--- `apply_change`: the settings stay, and the board has taken the change. Far from where it goes over, a tape with the change stands.
+-- `apply_change`: the settings stay, and the board has taken the change. Far from where it goes over, a tape with the change
+-- shows the same.
 use Rattle.std.proofs.Common.{◌≡◌, true, refl, subst, sym}
 use Rattle.nms_quote.specs.Roster.{holds}
 use Rattle.nms_calls.specs.Opened.{GrewBy, HasApplied, Opened, sizes_on}

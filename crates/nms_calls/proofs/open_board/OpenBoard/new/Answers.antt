@@ -1,4 +1,4 @@
--- `new`: a board of no change stands for the empty tape.
+-- `new`: a board of no change shows the empty tape.
 use Rattle.std.proofs.Common.{◌∙◌, ap, subst}
 use Rattle.nms_quote.specs.Roster.{Listing, sizes_of}
 use Rattle.nms_board.specs.Cells.{Board, IsBoard, opening}

@@ -1,5 +1,5 @@
 -- Planner::plan_on: what the board shows of the order's symbol is the table, by what set_on says, and all its clauses are
--- what fill says of it.
+-- what Made::set says of it.
 use Rattle.std.proofs.Common.{refl, subst}
 use Rattle.nms_quote.specs.Terms.{Terms}
 use Rattle.nms_quote.specs.declared.side_quote.Side.TheVariants.{Bid, Offer}
@@ -7,8 +7,8 @@ use Rattle.nms_board.specs.Shown.{rows_held, seen_on}
 use Rattle.nms_board.specs.View.{AreRows}
 use Rattle.nms_sweep.proofs.planner.Planner.plan_on.Goals as goal
 
-pub fill-requires-clause-table : goal.fill-requires-clause-table
-fill-requires-clause-table c = (
+pub set-requires-clause-table : goal.set-requires-clause-table
+set-requires-clause-table c = (
   seen_on c.args.board.now c.args.order.now.sym,
   c.args.fees.now,
   record {
@@ -25,7 +25,7 @@ fill-requires-clause-table c = (
 
 pub returns : goal.returns
 returns c =
-    let is = c.fill.ensures (seen_on c.args.board.now c.args.order.now.sym) c.args.fees.now (record {
+    let is = c.set.ensures (seen_on c.args.board.now c.args.order.now.sym) c.args.fees.now (record {
       version = c.applied-version.ensures.count;
       sym = refl;
       bids = subst (λ (one : Terms). AreRows (rows_held c.args.board.now one.sym Bid)) c.order.view_is c.shows_rows.ensures.bids;
