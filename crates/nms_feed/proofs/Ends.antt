@@ -24,7 +24,7 @@ use Rattle.nms_feed.proofs.Moves.{forks}
 feeds-distinct : IsDistinct is_same_feed feeds
 feeds-distinct = IsDistinct-from_count (on_equiv place_of nat_eq_equiv) feeds refl
 
--- what stands at a place, and what stands after it
+-- the element at a place, and those after it
 pub drop_next : {X : Type 0} (xs : List X) (place : ℕ) (x : X) → slice_get xs place ≡ Some x → drop place xs ≡ x ∷ drop (suc place) xs
 drop_next [] place x is = absurd (none-some x is)
 drop_next (y ∷ xs) zero x is = ap (λ z. z ∷ xs) (same_Some y x is)
@@ -91,7 +91,7 @@ unsent-total : (whole : List Marked) (fs : List Feed) → AllByRecursion (IsWhol
 unsent-total whole [] all = refl
 unsent-total whole (f ∷ fs) all = omega (arith, ap length all.0, unsent-total whole fs all.1)
 
--- what was sent for the feed at a place stands there among the senders' lists
+-- what was sent for the feed at a place is there among the senders' lists
 sent-at : (whole : List Marked) (count : ℕ) (fs : List Feed) (senders : List Sending) → map (λ s. s.feed) senders ≡ take count fs
     → AllByRecursion (IsWhole whole) (map unsent (drop count fs)) → AllByRecursion (IsWhole whole) (map told_by senders)
     → (place : ℕ) (f : Feed) → slice_get fs place ≡ Some f → of_feed f whole ≡ slice_index_or (lists_of senders) place []

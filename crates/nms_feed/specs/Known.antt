@@ -20,7 +20,7 @@ unsent feed = sent_for feed []
 abbrev pub sender_view : Feed → List Change → Known
 sender_view feed changes = record { sent = sent_for feed changes ∷ []; taken = None }
 
--- it may take, and these were taken; it alone may send for the feeds that have no sender, and nothing was sent for these
+-- it may take, and these were taken; only it may send for the feeds that have no sender, and nothing was sent for these
 abbrev pub taker_view : ℕ → List Marked → Known
 taker_view senders taken = record { sent = map unsent (drop senders feeds); taken = Some taken }
 
@@ -36,7 +36,7 @@ spent_view = record { sent = []; taken = None }
 abbrev pub without_first : Known → Known
 without_first known = record { sent = drop 1 known.sent; taken = known.taken }
 
--- that right alone
+-- only that right
 abbrev pub first_alone : Known → Known
 first_alone known = record { sent = take 1 known.sent; taken = None }
 

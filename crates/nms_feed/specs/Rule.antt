@@ -16,7 +16,7 @@ pub record IsAllSent (whole : List Marked) (holder : Feed → ℕ) (pass : ℕ) 
   pub alone : holder sent.feed ≡ pass
   pub all : sent.changes ≡ of_feed sent.feed whole
 
--- what a pass knows is true: of each feed that it may send for, and of what was taken, if it may take
+-- what a pass knows is true: for each feed that it may send for, and for what was taken, if it may take
 pub record Fits (whole taken : List Marked) (holder : Feed → ℕ) (taker pass : ℕ) (known : Known) : Type 0 where
   pub sends : AllByRecursion (IsAllSent whole holder pass) known.sent
   pub takes : (marked : List Marked) → known.taken ≡ Some marked → (taker ≡ pass) × (marked ≡ taken)

@@ -1,11 +1,11 @@
-//! What went over a lane.
+//! The counts of what passed through a lane.
 use arrayvec::ArrayVec;
 
-/// How many changes went over a lane.
+/// How many changes passed through a lane.
 #[derive(PartialEq, Drop)]
 pub struct Delivered {
-    /// Those that each sender sent, in order of feed: at most 2^40 each.
+    /// The counts of the changes that each sender sent, in order of feed: at most 2^40 each.
     pub sent: ArrayVec<u64, 8>,
-    /// Those that were taken: all of them.
+    /// The count of the changes that were taken, which is all of them.
     pub taken: u64,
 }

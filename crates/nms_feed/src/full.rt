@@ -1,4 +1,4 @@
-//! What a full lane answers.
+//! The answer of a full lane.
 use nms_quote::Change;
 use std::fmt;
 use thiserror::Error;

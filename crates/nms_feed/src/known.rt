@@ -1,19 +1,19 @@
-//! What a pass to the lane's queue knows (specs/Known). It exists in proofs alone: no value of it is made.
+//! What a pass to the lane's queue knows (specs/Known). It exists only in proofs: no value of it is made.
 use nms_quote::{Change, Feed, Marked};
 use std::collections::LinkedList;
 
-/// What was sent for a feed.
+/// The changes that were sent for a feed.
 pub struct Sent {
     /// The feed.
     pub feed: Feed,
-    /// What was sent for it, in order.
+    /// The changes that were sent for it, in order.
     pub changes: LinkedList<Change>,
 }
 
 /// For which feeds a pass may send, and whether it may take.
 pub struct Known {
-    /// What was sent for each feed that it may send for.
+    /// The changes that were sent for each feed for which it may send.
     pub sent: LinkedList<Sent>,
-    /// What was taken, if it may take.
+    /// The changes that were taken, if it may take.
     pub taken: Option<LinkedList<Marked>>,
 }

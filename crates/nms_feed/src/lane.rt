@@ -18,8 +18,8 @@ use nms_quote::Feed;
 use std::alloc::Global;
 use std::sync::Arc;
 
-/// Opens a lane that holds up to `capacity` changes at once, 2 to 1,024, for 1 to 8 senders: one for each of the first
-/// feeds, in order, and the taker. Nothing after it takes memory. `NoMemory` leaves nothing.
+/// Opens a lane that holds up to `capacity` changes at once, 2 to 1,024, for 1 to 8 senders. There is one sender for each of
+/// the first feeds, in order, and the taker. Nothing after it takes memory. After `NoMemory` nothing is kept.
 pub fn open_lane(
     alloc: Global,
     capacity: usize,
@@ -69,7 +69,7 @@ fn cut_senders(
     Ok(ends)
 }
 
-/// Cuts a pass off the first one for the feed at a place, the first that is still with it.
+/// Cuts a pass off the first one for the feed at a place, which is the first feed that is still with it.
 fn cut_sender(line: &Arc<Line>, pass: &mut LinePass, place: u8) -> Result<Sender, LaneFault>
     requires place { place < MOST_FEEDS }
     requires of_line { IsPassOf line.now.value pass.old }
@@ -94,8 +94,8 @@ fn cut_sender(line: &Arc<Line>, pass: &mut LinePass, place: u8) -> Result<Sender
     })
 }
 
-/// Closes a lane if all that was sent was taken, and returns how much that was. `NotEmpty` if a change is still to be
-/// taken: all ends come back as they were. The senders must be all that the lane has, in order of feed.
+/// Closes a lane if everything that was sent was taken, and returns how much that was. `NotEmpty` if a change is still to be
+/// taken; then all ends come back as they were. The senders must be all that the lane has, in order of feed.
 pub fn close(senders: Vec<Sender>, taker: Taker) -> Result<Delivered, NotEmpty>
     requires all { AreSendersOf taker senders.items }
     ensures merged { IfOk result (λ delivered. IsMerge (lists_of senders.items) taker.taken) }
@@ -136,7 +136,7 @@ fn counts_of(senders: &[Sender]) -> ArrayVec<u64, 8>
     counts
 }
 
-/// Puts together what the ends of a lane know once all was taken.
+/// Puts together what the ends of a lane know once everything was taken.
 fn join(senders: Vec<Sender>, taker: Taker)
     requires all { AreSendersOf taker senders.items }
     requires taken { sum_by (λ sender. length sender.sent) senders.items ≤ length taker.taken }

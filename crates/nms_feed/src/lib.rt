@@ -1,5 +1,5 @@
-//! The lane between the feeds and the board: each feed's thread sends its changes, one thread takes them,
-//! and what was taken is a merge of what was sent.
+//! The lane between the feeds and the board. Each feed's thread sends its changes, and one thread takes them. What was taken is
+//! a merge of what was sent.
 #![tactic(auto)]
 
 mod delivered;
@@ -8,6 +8,7 @@ mod known;
 mod lane;
 mod lane_fault;
 mod not_empty;
+mod packed;
 mod patience;
 mod rule;
 mod sender;

@@ -1,4 +1,4 @@
-//! The answer to closing a lane if not all was taken.
+//! The answer to closing a lane if not everything was taken.
 use crate::sender::Sender;
 use crate::taker::Taker;
 

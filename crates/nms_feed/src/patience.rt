@@ -8,13 +8,13 @@ use std::{hint, thread};
 const MOST_SPINS: u32 = 16;
 /// In how many turns after those it lets other threads run. This product's own rule.
 const MOST_YIELDS: u32 = 2;
-/// How long it rests in the turn after those, in microseconds. This product's own rule.
+/// How many microseconds it rests in the turn after those. This product's own rule.
 const SHORTEST_REST: u32 = 16;
-/// How long it rests at most in a turn, in microseconds. This product's own rule.
+/// How many microseconds it rests at most in a turn. This product's own rule.
 const LONGEST_REST: u32 = 1024;
 
-/// How long a thread has waited for another one so far, and so how it waits next: it spins, then it lets others run,
-/// then it rests, each time twice as long. It checks between two turns, and nobody wakes it. No proof rests on it.
+/// How long a thread has waited for another one so far, which decides how it waits next. It spins, then it lets others run,
+/// then it rests, each time twice as long. It checks between two turns, and no thread wakes it. No proof relies on it.
 #[derive(Clone, Copy)]
 pub struct Patience {
     /// How many turns it waited without a rest.
@@ -24,7 +24,7 @@ pub struct Patience {
 }
 
 impl Patience {
-    /// For a thread that has not waited yet.
+    /// The patience of a thread that has not waited yet.
     pub fn new() -> Self {
         Patience {
             turns: 0,
@@ -32,7 +32,7 @@ impl Patience {
         }
     }
 
-    /// Forgets how long it rested, but not that it waited: its next rest is a short one.
+    /// Shortens the next rest, but keeps that the thread waited.
     pub fn calm(&mut self) {
         self.rest = SHORTEST_REST;
     }

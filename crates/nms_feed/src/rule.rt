@@ -1,4 +1,4 @@
-//! The rule of the lane's queue (specs/Rule), and what each step over the queue shows.
+//! The rule of the lane's queue (specs/Rule), and the result of each step over the queue.
 ghost use Rattle.std.specs.Prelude.{◌≡◌, ◌<◌, ◌*◌, ◌∷◌, ◌++◌, [], length, Some};
 ghost use Rattle.std.specs.List.{AllByRecursion};
 ghost use Rattle.nms_quote.specs.Merge.{of_feed};
@@ -8,20 +8,20 @@ ghost use Rattle.nms_feed.specs.Known.{first_alone, first_sent, first_view, gath
 ghost use Rattle.nms_feed.specs.Rule.{Kept};
 
 use crate::known::Known;
+use crate::packed::Packed;
 use crossbeam_queue::protocol::{Join, Lesson, Outcome, Protocol, Split};
 use crossbeam_queue::{Pass, RuledArrayQueue};
-use nms_quote::Marked;
 
 /// The queue inside a lane.
-pub type Line = RuledArrayQueue<Marked, Known, InOrder>;
+pub type Line = RuledArrayQueue<Packed, Known, InOrder>;
 
-/// What one end of a lane knows of the queue. It has no bytes.
-pub type LinePass = Pass<Marked, Known>;
+/// What one end of a lane knows about the queue. It has no bytes.
+pub type LinePass = Pass<Packed, Known>;
 
 /// The rule: what was taken, followed by what is in the queue, is what the senders sent.
 pub struct InOrder;
 
-impl Protocol<Marked, Known> for InOrder {
+impl Protocol<Packed, Known> for InOrder {
     ghost holds = { Kept };
 
     ghost first = { first_view };
@@ -30,26 +30,26 @@ impl Protocol<Marked, Known> for InOrder {
 /// A change is sent.
 pub struct Sends;
 
-impl Outcome<Marked, Known> for Sends {
+impl Outcome<Packed, Known> for Sends {
     ghost then = { λ known marked after. after ≡ sender_view marked.feed (first_sent known.sent ++ marked.change ∷ []) };
 }
 
-impl Lesson<Marked, Known> for Sends {
+impl Lesson<Packed, Known> for Sends {
     ghost fact = { λ known items. Unit {0} };
 }
 
 /// A change is taken.
 pub struct Takes;
 
-impl Outcome<Marked, Known> for Takes {
+impl Outcome<Packed, Known> for Takes {
     ghost then = { λ known marked after. (after ≡ record { sent = known.sent; taken = Some (taken_in known ++ marked ∷ []) }) × (length (taken_in known) < MOST_FEEDS * MOST_SENT) };
 }
 
-impl Lesson<Marked, Known> for Takes {
+impl Lesson<Packed, Known> for Takes {
     ghost fact = { λ known items. Unit {0} };
 }
 
-/// A pass is cut off that may send for the first feed alone.
+/// A pass is cut off that may send only for the first feed.
 pub struct FirstFeed;
 
 impl Split<Known> for FirstFeed {
@@ -58,7 +58,7 @@ impl Split<Known> for FirstFeed {
     ghost right = { first_alone };
 }
 
-/// A pass takes in what another knows.
+/// A pass learns what another knows.
 pub struct Gathers;
 
 impl Join<Known> for Gathers {
@@ -67,9 +67,9 @@ impl Join<Known> for Gathers {
     ghost spent = { spent_view };
 }
 
-/// What was sent for each feed is what was taken of it, followed by what is in the queue of it.
+/// For each feed, the changes that were sent are those that were taken, followed by those in the queue.
 pub struct Tallies;
 
-impl Lesson<Marked, Known> for Tallies {
+impl Lesson<Packed, Known> for Tallies {
     ghost fact = { λ known items. AllByRecursion (λ sent. sent.changes ≡ of_feed sent.feed (taken_in known ++ items)) known.sent };
 }

@@ -3,9 +3,10 @@ ghost use Rattle.std.specs.Prelude.{◌≡◌, ◌<◌, ◌≤◌, ◌∷◌, �
 ghost use Rattle.nms_feed.specs.declared.TheConstants.{MOST_SENT};
 
 use crate::full::Full;
+use crate::packed::Packed;
 use crate::patience::Patience;
 use crate::rule::{Line, LinePass, Sends};
-use nms_quote::{Change, Feed, Marked};
+use nms_quote::{Change, Feed};
 use std::alloc::Global;
 use std::marker::Model;
 use std::sync::{Arc, Wait};
@@ -40,7 +41,7 @@ impl Sender {
         self.feed
     }
 
-    /// How many changes it sent.
+    /// How many changes were sent.
     pub(crate) fn count(&self) -> u64
         ensures count { result ≡ length self.now.sent }
         ensures within { result ≤ MOST_SENT }
@@ -72,18 +73,13 @@ impl Sender {
         ensures back { IfErr result (λ full. full.change ≡ change) }
         ensures same { (self.new.lane ≡ self.old.lane) × (self.new.feed ≡ self.old.feed) }
     {
-        let marked = Marked {
-            feed: self.feed,
-            change,
-        };
-        match self.line.push_as::<Sends, R>(rt, &mut self.pass, marked) {
+        let packed = Packed::of(self.feed, &change);
+        match self.line.push_as::<Sends, R>(rt, &mut self.pass, packed) {
             Ok(()) => {
                 self.sent += 1;
                 Ok(())
             }
-            Err(back) => Err(Full {
-                change: back.change,
-            }),
+            Err(_) => Err(Full { change }),
         }
     }
 }

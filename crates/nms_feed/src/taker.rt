@@ -8,7 +8,7 @@ use std::alloc::Global;
 use std::marker::Model;
 use std::sync::{Arc, Wait};
 
-/// The end of a lane where the changes of all feeds are taken.
+/// The end of a lane at which the changes of all feeds are taken.
 #[derive(Drop)]
 pub struct Taker {
     pub(crate) line: Arc<Line, Global>,
@@ -40,6 +40,6 @@ impl Taker {
     {
         let marked = self.line.pop_as::<Takes, R>(rt, &mut self.pass)?;
         self.taken += 1;
-        Some(marked.change)
+        Some(marked.change())
     }
 }

@@ -59,14 +59,14 @@ pub record HasBegun (roster : Listing) (feed : Feed) (bytes : Option (List ℕ))
   pub begin : BeginRecords bytes records
   pub sent : IsSentOf roster feed records old new before after
 
--- of the reasons not to send a record's change, a refusal is one only if it was asked for
+-- a refusal is a reason not to send a record's change only if it was asked for
 abbrev pub IsRefusal : Bool → ℕ → Result Line LineFault → FeedFault → Type 0
 IsRefusal strict place said (fault.Refused number why) = (strict ≡ true) × (number ≡ place) × (said ≡ Err why)
 IsRefusal strict place said fault.Failed = ⊥
 IsRefusal strict place said fault.TooLong = ⊥
 IsRefusal strict place said fault.NoMemory = ⊥
 
--- of the reasons to stop early, a refused record is one only if it was asked for: it is the last one that was read
+-- a refused record is a reason to stop early only if it was asked for: it is the last one that was read
 abbrev pub IsRefusedAt : Listing → Feed → Option (List ℕ) → FeedCounts → Bool → FeedFault → Type 0
 IsRefusedAt roster feed bytes counts strict (fault.Refused number why) =
     (strict ≡ true) × (before : List Record) × (refused : Record) × BeginRecords bytes (before ++ refused ∷ [])

@@ -17,7 +17,7 @@ pub enum FeedFault {
     NoMemory,
     /// E5: a record was refused, and the caller asked to stop at the first one.
     Refused {
-        /// The record's number in its feed, from 1.
+        /// The record's number in its feed, counted from 1.
         number: u64,
         /// Its fault.
         fault: LineFault,

@@ -2,11 +2,12 @@
 use nms_lines::{ByteRecord, LineFault};
 use nms_quote::Feed;
 
-/// A watch of a feed while it is read. The threads of all feeds use it at once.
+/// A watch of a feed while it is read. The threads of all feeds use it at the same time.
 pub trait FeedWatch: Sync {
-    /// A change of the feed was sent.
+    /// Called when a change of the feed was sent.
     fn sent(&self, feed: Feed);
 
-    /// The record of this number of the feed, from 1, was refused. It is passed over, or it ends the reading.
+    /// Called when the record with this number of the feed, counted from 1, was refused. Then the record is skipped, or it ends
+    /// the reading.
     fn refused(&self, feed: Feed, number: u64, fault: LineFault, record: &ByteRecord);
 }

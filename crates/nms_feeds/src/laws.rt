@@ -1,8 +1,8 @@
-//! The laws above the lines of a stream: `specs/Laws`. The functions do nothing: their contracts are the laws.
+//! The laws about the lines of a stream: `specs/Laws`. The functions do nothing: their contracts are the laws.
 ghost use Rattle.nms_feeds.specs.Laws.{EachLineIsReadAlone, PassesLinesOn, RefusesOneRecord};
 
-/// The records of a feed's stream are those of its lines, each passed on and read by itself, and no line has more than
-/// one. So a stray quote, a glued or a torn line costs one record, and every line after it is read as if it stood alone.
+/// The records of a feed's stream are those of its lines. Each line is passed on and read by itself, and has at most one
+/// record. So a stray quote, a glued or a torn line costs one record. Every line after it is read as if it were the only one.
 pub fn each_line_is_read_alone()
     ensures { EachLineIsReadAlone }
 {}
@@ -12,7 +12,7 @@ pub fn a_refused_line_is_one_refused_record()
     ensures { RefusesOneRecord }
 {}
 
-/// A stream of lines that may be passed on is passed on as it stands.
+/// A stream of lines that may be passed on is passed on as it is.
 pub fn good_lines_are_passed_on()
     ensures { PassesLinesOn }
 {}

@@ -1,4 +1,4 @@
-//! The stream of one feed: its records are read as they come, and each change that they say is sent.
+//! The stream of one feed: its records are read as they come, and each change that they give is sent.
 #![tactic(auto)]
 
 mod feed_counts;

@@ -22,13 +22,13 @@ use std::alloc::Global;
 use std::io::Read;
 use std::sync::Wait;
 
-/// Reads the records of a feed's stream as they come, and sends the change that each of them says, in order.
+/// Reads the records of a feed's stream as they come, and sends the change that each of them gives, in order.
 ///
-/// Only whole lines are read (`WholeLines`). A record that is refused is reported to the watch, passed over and counted;
-/// if `strict` is set it ends the reading. A feed may be read from several streams, one after another: the
-/// counts go on from one to the next. `Ok` is the end of the stream.
+/// Only complete lines are read (`WholeLines`). A record that is refused is reported to the watch, skipped and counted; if
+/// `strict` is set, it ends the reading. A feed may be read from several streams, one after another; the counts go on from one
+/// to the next. `Ok` is the end of the stream.
 ///
-/// It ends early on a failing stream, out of memory or at more than 2^40 records; the changes of the first records stay
+/// It ends early if the stream fails, if out of memory, or at more than 2^40 records. The changes of the records before stay
 /// sent. It waits if the lane is full.
 pub fn send_stream<W: Wait, R: Read + Drop, O: FeedWatch>(
     rt: &W,
@@ -43,11 +43,11 @@ pub fn send_stream<W: Wait, R: Read + Drop, O: FeedWatch>(
     requires counted { IsCounted sender.old.sent counts.old }
     ensures same { (sender.new.lane ≡ sender.old.lane) × (sender.new.feed ≡ sender.old.feed) }
     ensures counted { IsCounted sender.new.sent counts.new }
-    // All records of the whole lines were read, and the changes that they say were sent in order, and nothing else.
+    // All records of the complete lines were read. Only the changes that they give were sent, in order.
     ensures read { OnOk result (HasRead setup.now.roster sender.old.feed (option_map whole_lines (R.remaining source)) sender.old.sent sender.new.sent counts.old counts.new) }
-    // As above, but of the first records.
+    // The same holds for the first records.
     ensures begun { OnErr result (HasBegun setup.now.roster sender.old.feed (option_map whole_lines (R.remaining source)) sender.old.sent sender.new.sent counts.old counts.new) }
-    // A refused record ends the reading only if the caller asked for it, and then none is passed over.
+    // A refused record ends the reading only if the caller asked for it, and then none is skipped.
     ensures strict { strict ≡ true → counts.new.refused ≡ counts.old.refused }
     ensures refused { IfErr result (IsRefusedAt setup.now.roster sender.old.feed (option_map whole_lines (R.remaining source)) counts.old strict) }
 {
@@ -65,7 +65,7 @@ pub fn send_stream<W: Wait, R: Read + Drop, O: FeedWatch>(
     )
 }
 
-/// Sends the changes that a reader's records say, each read into the row.
+/// Sends the changes that a reader's records give. Each is read into the row.
 fn send_rows<W: Wait, S: Read, O: FeedWatch>(
     rt: &W,
     setup: &Setup,
@@ -102,7 +102,7 @@ fn send_rows<W: Wait, S: Read, O: FeedWatch>(
     Err(FeedFault::TooLong)
 }
 
-/// Sends the change that a record says, or passes the record over.
+/// Sends the change that a record gives, or skips the record.
 fn send_record<W: Wait, O: FeedWatch>(
     rt: &W,
     setup: &Setup,
@@ -125,7 +125,7 @@ fn send_record<W: Wait, O: FeedWatch>(
     let number = counts.records + 1;
     match read_feed_change(row, setup.roster(), feed) {
         Ok(change) => {
-            // Moving a change takes a mention of the types in it: the prover has to have seen them.
+            // The prover has to see the types in a change before the change moves, so the code mentions them.
             let _seen: (Option<SideQuote>, Option<Lot>) = (None, None);
             sender.send(rt, change);
             counts.records = number;

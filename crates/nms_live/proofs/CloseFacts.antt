@@ -79,7 +79,7 @@ all_equal : (answers : List Answer) (m : ℕ) → AllByRecursion (λ n. n ≤ m)
 all_equal [] m low high = tt
 all_equal (answer ∷ answers) m low high = (omega (arith, low.0, high.0), all_equal answers m low.1 high.1)
 
--- a desk that learnt of the whole tape, answered its orders again, and settled
+-- a desk that learned of the complete tape, answered its orders again, and settled
 pub closed : (settings : Settings) (desk : ℕ) (orders : List DeskOrder) (published : Batches) (listed : List ℕ) (tape : Tape)
     (before after more : List Tape) (row : DeskRow)
     → AreListed published listed → AreSettled published tape after → after ≡ more ++ tape ∷ before

@@ -64,7 +64,7 @@ pub ready_for : (settings : Settings) (taped : Taped) (keeping : Keeping) (desks
     → desks ≡ replicate settings.desks (unseeing taped.opening settings) → AreReady settings keeping.taped.opening desks
 ready_for settings taped keeping desks kept is = rw kept (ready_all settings taped.opening desks is)
 
--- they are as many as the setup says
+-- their number is the setup's
 pub count_of_all : (settings : Settings) (opening : Book) (desks : List Knowing)
     → desks ≡ replicate settings.desks (unseeing opening settings) → length desks ≡ settings.desks
 count_of_all settings opening desks is = rw is (length-replicate settings.desks (unseeing opening settings))

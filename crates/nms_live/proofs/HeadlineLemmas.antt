@@ -91,7 +91,7 @@ at_or_above (suc low) (suc k) le = elim (at_or_above low k (omega (arith, le))) 
       | inr above ↦ inr (omega (arith, above))
     ]
 
--- what a place answers stands among the answers
+-- what a place answers is among the answers
 all_answered : (f : ℕ → Option Row) (low n k : ℕ) (row : Row) → low ≤ k → k < low + n → f k ≡ Some row
     → Contains (filter_map f (range_with_len low n)) row
 all_answered f low zero k row above below is = absurd (omega (arith, above, below))

@@ -54,7 +54,7 @@ none_listed n = (
   ],
 )
 
--- the whole tape was published, and its length listed
+-- all of the tape was published, and its length listed
 pub kept_more : (old new : Taped) (listed more : List ℕ) (stop : Option LiveFault)
     → ((n : ℕ) → Contains (publications new.published) n ↔ Contains (publications old.published) n ⊎ (n ≡ length (tape_of old)))
     → changes new.published ≡ tape_of old → more ≡ listed ++ length (tape_of old) ∷ [] → IsKept old listed stop → IsKept new more stop

@@ -73,7 +73,7 @@ left_mine IsWanted desk turn first new mine left =
       },
     )
 
--- another desk keeps what is left of its own
+-- another desk keeps what it has left
 left_other : (IsWanted : Answer → Type 0) (desk : ℕ) (turn : Turn) (first now : List Answer)
     → (turn.order.1.desk == desk) ≡ false → turn.answer.desk ≡ turn.order.1.desk
     → IsLeft IsWanted desk (turn.order ∷ turn.rest) turn.put first now → IsLeft IsWanted desk turn.rest (put_now turn) first now
@@ -113,7 +113,7 @@ all_put IsWanted desk put first now left =
     sym (append-nil (of_desk desk put)) ∙ ap (λ (l : List Answer). of_desk desk put ++ l) (sym (zip_none IsFor now left.matched))
     ∙ left.parted
 
--- nobody answered for a desk that is not there
+-- no answer was made for a desk that is not there
 none_of : (orders : List DeskOrder) (place desks desk : ℕ) (answers : List Answer) → All (λ order. order.desk < desks) orders → desks ≤ desk
     → AllZip IsFor (enumerate_from place orders) answers → of_desk desk answers ≡ []
 none_of [] place desks desk [] below le all = refl
@@ -140,7 +140,7 @@ rising_all orders desks put put_closing below matched again rising desk =
         let le : desks ≤ desk = grind (arith, nat_tests, is) in
         rw (none_of orders 0 desks desk put below le matched, none_of orders 0 desks desk put_closing below le again) tt
 
--- of each desk, what is left once the next of the order's desk is put
+-- what each desk has left once the next answer of the order's desk is put
 pub left_step : (part : DeskRow → List Answer) (IsWanted : Answer → Type 0) (turn : Turn) (first old new : List DeskRow)
     → length new ≡ length old → turn.order.1.desk < length old
     → ((k : ℕ) (d : DeskRow) → k < length old → k ≢ turn.order.1.desk → slice_index_or new k d ≡ slice_index_or old k d)

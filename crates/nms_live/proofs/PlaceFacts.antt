@@ -1,4 +1,4 @@
--- What stands at each place of a list that grows.
+-- The element at each place of a list that grows.
 use Rattle.std.proofs.Common.{ℕ, zero, suc, ◌≡◌, ◌<◌, ◌++◌, List, [], ◌∷◌, length, ap, sym, subst, ◌∙◌, arith, append_assoc, length-append}
 use Rattle.std.specs.Prelude.{slice_index_or}
 use Rattle.std.proofs.lemmas.List.{append-nil, nil_from_length}
@@ -14,7 +14,7 @@ row_more P (y ∷ xs) x all here zero d below = all 0 d (omega arith)
 row_more P (y ∷ xs) x all here (suc k) d below =
     row_more (λ (j : ℕ). P (suc j)) xs x (λ j e lt. all (suc j) e (omega (arith, lt))) here k d (omega (arith, below))
 
--- what stands after n others
+-- the element after n others
 pub stands_at : {X : Type 0} (all front : List X) (x : X) (back : List X) (place : ℕ) (d : X) → (front ++ x ∷ []) ++ back ≡ all
     → place ≡ length front → slice_index_or all place d ≡ x
 stands_at all front x back place d parted is =

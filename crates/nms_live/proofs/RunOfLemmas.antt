@@ -131,7 +131,7 @@ module _ (room : Room) (roster : Listing) (whole : Tape) (published : List ℕ) 
       (subst (IsUpTo room roster (made_on room whole) published all (before ++ change ∷ [])) (sym (length-append before (change ∷ [])))
       more)
 
--- of all changes sent, and each on the feed that it belongs to, the feeds sent those that belong to them
+-- if each of the changes sent is on the feed to which it belongs, the feeds sent those that belong to them
 abbrev pub TellFeeds : Type 0
 TellFeeds = (roster : Listing) (events : List Event) (feed : Feed) → All (IsOnOwnFeed roster) (sent_by events)
     → changes_of roster feed (changes_in (sent_by events)) ≡ fed_by feed events

@@ -126,7 +126,7 @@ module _ (room : Room) (roster : Listing) (basis : Answer → Seen) where
       (same_standing _ _ refl (omega arith) refl)
       (append-nil lengths) (λ desk. append-nil (map basis (of_desk desk looked))) (λ desk. append-nil (versions (of_desk desk looked))) led)
 
-  -- the whole tape is published
+  -- all of the tape is published
   publish : (tape : Tape) (lengths : List ℕ) (looked : List Answer)
       → Led room basis (standing_at roster tape lengths) lengths looked
       → Led room basis (standing_at roster tape (lengths ++ length tape ∷ [])) (lengths ++ length tape ∷ []) looked
@@ -170,7 +170,7 @@ module _ (room : Room) (roster : Listing) (basis : Answer → Seen) where
       added f desk = sym (ap (map f) (filter-append (λ (a : Answer). a.desk == desk) looked (answer ∷ []))
           ∙ map-append f (of_desk desk looked) (cond (answer.desk == desk) (answer ∷ []) []))
 
-  -- every publishing of the whole tape, of these
+  -- every publishing of the complete tape, of these
   pub publish_all : (tape : Tape) (looked : List Answer) (ns lengths : List ℕ)
       → Led room basis (standing_at roster tape lengths) lengths looked
       → Led room basis (standing_at roster tape (lengths ++ on itself (length tape) ns)) (lengths ++ on itself (length tape) ns) looked

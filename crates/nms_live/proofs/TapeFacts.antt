@@ -45,7 +45,7 @@ all_own roster (m ∷ ms) each = (
   all_own roster ms (λ f. rest_of_more (IsOwn roster f) m.change (of_feed f ms) (is_same_feed f m.feed) (each f)),
 )
 
--- so the tape alone shows what each feed sent
+-- so the tape by itself shows what each feed sent
 changes_of-own : (roster : Listing) (f : Feed) (marked : List Marked) → AllByRecursion (λ m. IsOwn roster m.feed m.change) marked
     → changes_of roster f (changes_in marked) ≡ of_feed f marked
 unfolding of_feed
@@ -84,7 +84,7 @@ zip_at R (x ∷ xs) [] k d e all below = absurd all
 zip_at R (x ∷ xs) (y ∷ ys) zero d e all below = all.0
 zip_at R (x ∷ xs) (y ∷ ys) (suc k) d e all below = zip_at R xs ys k d e all.1 (omega (arith, below))
 
--- a feed stands among the feeds at its place
+-- a feed is among the feeds at its place
 at_place : (f d : Feed) → slice_index_or feeds (place_of f) d ≡ f
 at_place feed.A d = refl
 at_place feed.B d = refl
@@ -125,7 +125,7 @@ zip_length R [] (y ∷ ys) all = absurd all
 zip_length R (x ∷ xs) [] all = absurd all
 zip_length R (x ∷ xs) (y ∷ ys) all = ap suc (zip_length R xs ys all.1)
 
--- there are as many as there are texts, and at most one for each feed
+-- there is one for each text, and at most one for each feed
 as_many : (taker : Taking) (senders : List Sending) → AreSendersOf taker senders → length senders ≡ min taker.senders (length feeds)
 as_many taker senders of = sym (length-map senders (λ (s : Sending). s.feed)) ∙ ap length of.in_order ∙ length-take taker.senders feeds
 

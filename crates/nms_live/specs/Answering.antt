@@ -26,7 +26,7 @@ numbered orders = enumerate_from 0 orders
 abbrev pub own : ℕ → List (ℕ × DeskOrder) → List (ℕ × DeskOrder)
 own desk orders = filter (λ order. order.1.desk == desk) orders
 
--- in each row stand the orders of the desk at its place
+-- each row has the orders of the desk at its place
 abbrev pub AreOwn : List DeskOrder → List OwnOrders → Type 0
 AreOwn orders rows = (k : ℕ) (d : OwnOrders) → k < length rows → (slice_index_or rows k d).orders.items ≡ own k (numbered orders)
 
@@ -81,7 +81,7 @@ pub record IsClosed (settings : Settings) (desk : ℕ) (orders : List DeskOrder)
     pub rising : IsRising (versions (row.answers.items ++ row.closing.items))
     pub last : AllByRecursion (λ answer. answer.plan.version ≡ length tape) row.closing.items
 
--- the answers of a run to all its orders, in order: one to each, and one on the whole tape
+-- the answers of a run to all its orders, in order: one to each, and one on the complete tape
 pub record IsAnswered (settings : Settings) (orders : List DeskOrder) (tape : Tape) (published : List ℕ) (answers closing : List Answer) :
     Type 0 where
   pub matched : AllZip IsFor (numbered orders) answers

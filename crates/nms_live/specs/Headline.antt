@@ -59,8 +59,8 @@ pub record IsBestOfItsVersion (settings : Settings) (live : Live) (answer : Answ
   pub offer : HasOneBest Offer (basis_of settings live answer).offers
   pub plan_is : IsBestPlanOn settings (basis_of settings live answer) answer
 
--- this holds of all answers, those of the run and the closing ones; none is on an older version than its desk saw
--- before; and the closing ones are on the whole tape, of which their desk was told
+-- this holds of all answers, those of the run and the closing ones; none is on an older version than its desk saw before; and
+-- the closing ones are on the complete tape, which their desk learned of
 pub record AreBestOfTheirVersions (settings : Settings) (live : Live) : Type 0 where
   pub each : AllByRecursion (IsBestOfItsVersion settings live) (live.answers.items ++ live.closing.items)
   pub no_older : (desk : ℕ) → AllPairs (λ earlier later. earlier ≤ later)

@@ -37,7 +37,7 @@ pub record IsSameKeeping (old new : Keeping) : Type 0 where
 abbrev pub HasTaken : Keeping → List Marked → Type 0
 HasTaken keeping taken = keeping.stop ≡ None → tape_of keeping.taped ≡ changes_in taken
 
--- the whole tape is published, and its length was listed last
+-- all of the tape is published, and its length was listed last
 pub record IsWhole (keeping : Keeping) : Type 0 where
   pub published : changes keeping.taped.published ≡ tape_of keeping.taped
   pub ends : EndsWith keeping.listed (length (tape_of keeping.taped))

@@ -15,8 +15,8 @@ pub record IsLive (settings : Settings) (texts : List (List ℕ)) (orders : List
   pub limit : length live.tape.items ≤ settings.tape_limit
   -- the tape was published batch by batch: the lengths that were published are 0 and those that are listed, and no others
   pub published : WasPublished live.tape.items live.published.items
-  -- they never fall and end with the whole tape
+  -- they never fall and end with the complete tape
   pub rising : IsRising live.published.items
   pub ends : EndsWith live.published.items (length live.tape.items)
-  -- each order has an answer, and one on the whole tape, each the best on its version
+  -- each order has an answer, and one on the complete tape, each the best on its version
   pub answered : IsAnswered settings orders live.tape.items live.published.items live.answers.items live.closing.items

@@ -51,7 +51,7 @@ abbrev pub IsFed : Listing → Feed → List ℕ → List Change → Option Live
 IsFed roster feed text sent None = IsRead roster feed text sent
 IsFed roster feed text sent (Some why) = IsFeedFault roster feed text why
 
--- the text of a feed: the texts stand in order of place, and a feed beyond them has no bytes
+-- the text of a feed: the texts are in order of place, and a feed beyond them has no bytes
 abbrev pub text_of : Feed → List (List ℕ) → List ℕ
 text_of feed texts = own_of feed texts
 
@@ -59,8 +59,8 @@ text_of feed texts = own_of feed texts
 abbrev pub IsLiveFault : Listing → List (List ℕ) → LiveFault → Type 0
 IsLiveFault roster texts why = IfLine (λ of number own. IsFirstRefused roster of (text_of of texts) number own) why
 
--- what one feed gave: its text reads as changes. They are those of the tape that bear the feed's mark, in order. The
--- mark of a change is the feed that it belongs to: so the tape alone shows what the feed gave
+-- what one feed gave: its text reads as changes. They are those of the tape that bear the feed's mark, in order. The mark of a
+-- change is the feed that it belongs to: so the tape by itself shows what the feed gave
 pub record HasGiven (roster : Listing) (text : List ℕ) (marked : List Marked) (feed : Feed) : Type 0 where
   pub reads : IsRead roster feed text (of_feed feed marked)
   pub own : changes_of roster feed (changes_in marked) ≡ of_feed feed marked

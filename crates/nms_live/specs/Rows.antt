@@ -14,12 +14,11 @@ abbrev pub AreRows : Settings → List DeskOrder → Tape → List ℕ → List 
 AreRows settings orders tape published rows =
     (k : ℕ) (d : DeskRow) → k < length rows → IsClosed settings k orders tape published (slice_index_or rows k d)
 
--- a closing answer: it is sound, and on the whole tape
+-- a closing answer: it is sound, and on the complete tape
 abbrev pub IsLast : Settings → Tape → List ℕ → Answer → Type 0
 IsLast settings tape published answer = IsSound settings tape published answer × (answer.plan.version ≡ length tape)
 
--- of a desk's answers some were put after the others: what is left answers the desk's orders from there on, and each is
--- as required
+-- some of a desk's answers were put after the others: the rest answers the desk's orders from there on, and each is as required
 pub record IsLeft (IsWanted : Answer → Type 0) (desk : ℕ) (left : List (ℕ × DeskOrder)) (put first now : List Answer) : Type 0 where
   pub parted : of_desk desk put ++ now ≡ first
   pub matched : AllZip IsFor (own desk left) now

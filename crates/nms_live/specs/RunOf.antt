@@ -44,8 +44,8 @@ pub record IsRunOf (settings : Settings) (texts : List (List ℕ)) (live : Live)
   pub tape : tape_at (standing_after events) ≡ live.tape.items
   -- the publishings answered what was published
   pub published : publishings events ≡ live.published.items
-  -- a desk's looks showed what its answers were made on, and then what its closing answers were made on; and it was
-  -- told of no other version
+  -- a desk's looks showed what its answers were made on, and then what its closing answers were made on; and it learned of no
+  -- other version
   pub looks : (desk : ℕ) → looks_of desk events ≡ map (basis_of settings live) (of_desk desk (live.answers.items ++ live.closing.items))
   pub told : (desk : ℕ) → versions_of desk events ≡ versions (of_desk desk (live.answers.items ++ live.closing.items))
 

@@ -1,4 +1,4 @@
-//! The closing answers: each desk answers its orders again on the whole tape, and is settled (specs/Answering).
+//! The closing answers. Each desk answers its orders again on the complete tape, and is settled (specs/Answering).
 ghost use Rattle.std.specs.Prelude.{◌≡◌, ℕ, ◌<◌, ◌≤◌, length, slice_index_or, None, IfErr, IfOk};
 ghost use Rattle.nms_versions.specs.Taped.{tape_of};
 ghost use Rattle.nms_live.specs.Answering.{IsClosed};
@@ -22,11 +22,11 @@ use std::sync::Wait;
 pub struct DeskRow {
     /// The answers that it made while the feeds were running.
     pub(crate) answers: VecDeque<Answer>,
-    /// The answers that it made on the whole tape.
+    /// The answers that it made on the complete tape.
     pub(crate) closing: VecDeque<Answer>,
 }
 
-/// Lets each desk answer its orders again on the whole tape, and settles it.
+/// Lets each desk answer its orders again on the complete tape, and settles it.
 pub(crate) fn close_desks<R: Wait, G>(
     means: &Means<'_, R, G>,
     given: &Given<'_>,
@@ -42,7 +42,7 @@ pub(crate) fn close_desks<R: Wait, G>(
     ensures rows { IfOk result (λ rows. AreRows given.now.setup.now given.now.orders.items (tape_of keeper.old.taped) keeper.old.listed rows.items) }
     ensures fault { IfErr result IsNoLine }
 {
-    // They are few enough for their numbers.
+    // The prover has to see that there are few enough desks for their numbers.
     let _most = given.setup.desks();
     let mut rows = Vec::new(means.alloc);
     let mut number = 0u8;
@@ -60,7 +60,7 @@ pub(crate) fn close_desks<R: Wait, G>(
     Ok(rows)
 }
 
-/// Lets a desk answer its orders again on the whole tape, and settles it.
+/// Lets a desk answer its orders again on the complete tape, and settles it.
 fn close_desk<R: Wait, G>(
     means: &Means<'_, R, G>,
     given: &Given<'_>,

@@ -1,4 +1,4 @@
-//! A desk's worker: it answers the desk's orders, each on what is published by then (specs/Answering).
+//! A desk's worker. It answers the desk's orders, each on what is published by then (specs/Answering).
 ghost use Rattle.std.specs.Prelude.{◌≡◌, ◌≤◌, ◌++◌, ◌∷◌, List, length, IfErr, IfOk, OnErr};
 ghost use Rattle.std.specs.List.{AllByRecursion};
 ghost use Rattle.nms_quote.specs.Roster.{sizes_of};
@@ -20,7 +20,7 @@ use std::snapshot::Snapshot;
 use std::sync::Wait;
 use std::thread::Promise;
 
-/// What a desk's worker gives back: the desk, its answers, and why it stopped early, if so.
+/// What a desk's worker gives back: the desk, its answers, and why it stopped early, if it did.
 #[derive(Drop)]
 pub struct Desked {
     pub(crate) desk: Desk,
@@ -28,7 +28,7 @@ pub struct Desked {
     pub(crate) stop: Option<LiveFault>,
 }
 
-/// What went into a desk's worker. It exists in proofs alone.
+/// What went into a desk's worker. It exists only in proofs.
 #[derive(Drop)]
 pub struct DeskJob {
     pub(crate) setup: Snapshot<Setup>,
@@ -42,7 +42,7 @@ impl Promise<Desked> for DeskJob {
     ghost kept_by = { KeepsJob };
 }
 
-/// Answers the orders of the desk of this number.
+/// Answers the orders of the desk with this number.
 pub(crate) fn work<R: Wait, G: Gate>(
     means: &Means<'_, R, G>,
     setup: &Setup,
@@ -67,7 +67,7 @@ pub(crate) fn work<R: Wait, G: Gate>(
     }
 }
 
-/// Answers the orders of the desk of this number in order, each once.
+/// Answers the orders of the desk with this number in order, each once.
 pub(crate) fn answer_orders<R: Wait, G: Gate>(
     means: &Means<'_, R, G>,
     setup: &Setup,
@@ -100,7 +100,7 @@ pub(crate) fn answer_orders<R: Wait, G: Gate>(
     Ok(answers)
 }
 
-/// Looks, and plans the order on what is seen.
+/// Looks, and plans the order on the view.
 fn answer_one<R: Wait, G: Gate>(
     means: &Means<'_, R, G>,
     at: GatePoint,

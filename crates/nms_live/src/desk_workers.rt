@@ -58,10 +58,10 @@ fn start_desks<'s, E, R: Threads + Wait + Sync, G: Gate>(
     ensures started { IfOk result (λ handles. AreStarted given.now.setup.now given.now.orders.items desks.items handles.items) }
     ensures fault { IfErr result IsNoLine }
 {
-    // They are few enough for their numbers.
+    // The prover has to see that there are few enough desks for their numbers.
     let _most = given.setup.desks();
     let mut handles = Vec::new(means.alloc);
-    // A worker that was started must be waited for: so there is room for it before.
+    // There is room first, because a worker that was started must be waited for.
     if handles.reserve(desks.len()).is_err() {
         return Err(LiveFault::NoMemory);
     }
@@ -114,15 +114,15 @@ fn start_desk<'s, E, R: Wait + Sync, G: Gate>(
     Some(handle)
 }
 
-/// Waits for the desks' workers that were started if not all could be. What they return is let go: a handle that is
-/// dropped would keep it for ever.
+/// Waits for the desks' workers that were started, if not all could be. Their results are dropped here, because a handle that
+/// is dropped would keep them for ever.
 fn join_started<R: Threads>(rt: &R, handles: Vec<PromisedHandle<Desked, DeskJob>>) {
     for handle in handles {
         let _worked = handle.join(rt);
     }
 }
 
-/// Waits for the desks' workers. There is room for what they return, so no fault of theirs is lost.
+/// Waits for the desks' workers. There is room for their results, so none of their faults is lost.
 pub(crate) fn join_desks<R: Threads>(
     rt: &R,
     handles: Vec<PromisedHandle<Desked, DeskJob>>,
@@ -142,7 +142,7 @@ pub(crate) fn join_desks<R: Threads>(
     back
 }
 
-/// The fault that is answered, from the faults of the desks' workers and one more.
+/// The fault with which the run answers, from the faults of the desks' workers and one more.
 pub(crate) fn fault_among(fault: Option<LiveFault>, desks: &[Desked]) -> Option<LiveFault>
     requires no_line { (k : ℕ) (d : Desked) → k < length desks.now → IsNoLineIfAny (slice_index_or desks.now k d).stop }
     ensures first { result ≡ first_among (λ d. d.stop) fault desks.now }

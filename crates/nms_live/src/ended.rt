@@ -1,4 +1,4 @@
-//! Which feeds' workers have ended. Its flags tell the taker when to stop looking; no proof rests on them.
+//! Which feeds' workers have ended. By its flags the taker knows when to stop looking; no proof relies on them.
 use nms_quote::{Feed, MOST_FEEDS};
 use std::sync::atomic::{AtomicBool, Ordering};
 
@@ -25,7 +25,7 @@ impl Ended {
         }
     }
 
-    /// The worker of this feed has ended, or none was started.
+    /// Notes that the worker of this feed has ended, or that none was started.
     pub(crate) fn add(&self, feed: Feed) {
         self.flags[usize::from(feed.place())].store(true, Ordering::SeqCst);
     }

@@ -1,4 +1,4 @@
-//! A feed's worker: it reads its text and sends the changes (specs/Reading).
+//! A feed's worker. It reads its text and sends the changes (specs/Reading).
 ghost use Rattle.std.specs.Prelude.{◌≡◌, ◌<◌, ◌+◌, ◌++◌, ◌∷◌, ℕ, List, [], length, map, Ok, Err, Some, IfErr, IfOk, OnOk};
 ghost use Rattle.nms_lines.specs.Records.{ReadsFrom};
 ghost use Rattle.nms_lines.specs.Rows.{fields_of};
@@ -22,14 +22,14 @@ use std::snapshot::Snapshot;
 use std::sync::Wait;
 use std::thread::Promise;
 
-/// What a feed's worker returns: its end of the lane, and why it stopped early, if so.
+/// What a feed's worker returns: its end of the lane, and why it stopped early, if it did.
 #[derive(Drop)]
 pub struct Fed {
     pub(crate) sender: Sender,
     pub(crate) stop: Option<LiveFault>,
 }
 
-/// What went into a feed's worker. It exists in proofs alone.
+/// What went into a feed's worker. It exists only in proofs.
 #[derive(Drop)]
 pub struct FeedJob {
     pub(crate) setup: Snapshot<Setup>,
@@ -43,7 +43,7 @@ impl Promise<Fed> for FeedJob {
     ghost kept_by = { KeepsFeedJob };
 }
 
-/// Reads the text of a sender's feed, sends its changes in order, and says that it has ended.
+/// Reads the text of a sender's feed, sends its changes in order, and notes that it has ended.
 pub(crate) fn feed_all<R: Wait, G: Gate>(
     means: &Means<'_, R, G>,
     setup: &Setup,
@@ -83,7 +83,7 @@ fn send_all<R: Wait, G: Gate>(
     send_rows(means, setup, feed, &mut reader, &mut row, sender)
 }
 
-/// Sends the changes that a reader's records say, each read into the row, up to the first record that is refused.
+/// Sends the changes that a reader's records give, up to the first record that is refused. Each is read into the row.
 fn send_rows<R: Wait, G: Gate>(
     means: &Means<'_, R, G>,
     setup: &Setup,
@@ -108,11 +108,11 @@ fn send_rows<R: Wait, G: Gate>(
             Err(_) => return Err(LiveFault::NoMemory),
         }
     }
-    // No text has so many records.
+    // This never happens, because no text has that number of records.
     Err(LiveFault::NoMemory)
 }
 
-/// Sends the change that a record says, with n sent before it.
+/// Sends the change that a record gives, with n sent before it.
 fn send_record<R: Wait, G: Gate>(
     means: &Means<'_, R, G>,
     setup: &Setup,
@@ -142,7 +142,7 @@ fn send_record<R: Wait, G: Gate>(
     if !passes(means.rt, means.gate, at) {
         return Err(LiveFault::GateLimit);
     }
-    // Moving a change takes a mention of the types in it: the prover has to have seen them.
+    // The prover has to see the types in a change before the change moves, so the code mentions them.
     let _seen: (Option<SideQuote>, Option<Lot>) = (None, None);
     sender.send(means.rt, change);
     means.gate.done(at);

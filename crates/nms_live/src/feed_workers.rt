@@ -44,7 +44,7 @@ pub(crate) fn run_feeds<'s, E, R: Threads + Wait + Sync, G: Gate>(
     let (senders, mut taker) = ends;
     let mut handles = Vec::new(means.alloc);
     let mut back = Vec::new(means.alloc);
-    // A worker that was started must be waited for: so there is room for it before.
+    // There is room first, because a worker that was started must be waited for.
     if handles.reserve(senders.len()).is_err() || back.reserve(senders.len()).is_err() {
         return Some(LiveFault::NoMemory);
     }
@@ -57,7 +57,7 @@ pub(crate) fn run_feeds<'s, E, R: Threads + Wait + Sync, G: Gate>(
     end_feeds(means, keeper, fed, taker)
 }
 
-/// Starts the feeds' workers in order of place, and reports whether it started all. If one can't be started, no more
+/// Starts the feeds' workers in order of place, and reports whether it started all. If one can't be started, no further ones
 /// are, and their feeds have ended.
 fn start_feeds<'s, E, R: Wait + Sync, G: Gate>(
     scope: &'s Scope<'s, E>,
@@ -121,7 +121,7 @@ fn start_feed<'s, E, R: Wait + Sync, G: Gate>(
     Some(handle)
 }
 
-/// Waits for the feeds' workers. There is room for what they return, so no fault of theirs is lost.
+/// Waits for the feeds' workers. There is room for their results, so none of their faults is lost.
 fn join_feeds<R: Threads>(
     rt: &R,
     handles: Vec<PromisedHandle<Fed, FeedJob>>,
@@ -166,7 +166,7 @@ fn end_feeds<R: Wait, G: Gate>(
     None
 }
 
-/// The fault that is answered, from the faults of the feeds' workers.
+/// The fault with which the run answers, from the faults of the feeds' workers.
 fn fault_of_feeds(fed: &[Fed]) -> Option<LiveFault>
     ensures first { result ≡ first_stop fed.now }
 {

@@ -1,4 +1,4 @@
-//! Which fault a run answers if there are several (specs/Faults).
+//! Which fault a run answers with if there are several (specs/Faults).
 ghost use Rattle.std.specs.Prelude.{◌≡◌, ◌⊎◌, None};
 ghost use Rattle.nms_live.specs.Faults.{first_fault};
 

@@ -1,4 +1,4 @@
-//! The gate of a live run: a caller may hold up each send, look and publishing.
+//! The gate of a live run, by which a caller may hold up each send, look and publishing.
 use crate::{MOST_RESTS, MOST_TURNS};
 use nms_feed::Patience;
 use nms_quote::Feed;
@@ -12,7 +12,7 @@ pub enum GatePoint {
     Send {
         /// The feed.
         feed: Feed,
-        /// How many it sent before.
+        /// How many changes it sent before.
         k: u64,
     },
     /// A desk's worker looks.
@@ -29,12 +29,12 @@ pub enum GatePoint {
     },
 }
 
-/// Decides when each send, look and publishing of a live run may be made. All threads of the run use it at once.
+/// Decides when each send, look and publishing of a live run may be made. All threads of the run use it at the same time.
 pub trait Gate: Sync {
-    /// Whether it may be made now. It is asked up to 1,000,000 times, until it agrees.
+    /// Whether the act may be made now. This is asked up to 1,000,000 times, until it agrees.
     fn may(&self, at: GatePoint) -> bool;
 
-    /// It was made.
+    /// Called after the act was made.
     fn done(&self, at: GatePoint);
 }
 

@@ -1,4 +1,4 @@
-//! All answers in the order of the orders (specs/Answering).
+//! Putting all answers into the order of the orders (specs/Answering).
 ghost use Rattle.std.specs.Prelude.{◌≡◌, ◌≢◌, ℕ, ◌<◌, ◌∷◌, All, length, slice_index_or, IfErr, IfOk};
 ghost use Rattle.nms_live.specs.Answering.{IsAnswered};
 ghost use Rattle.nms_live.specs.Faults.{IsNoLine};

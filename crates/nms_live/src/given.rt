@@ -1,4 +1,4 @@
-//! What a live run is given, and what it works with: two values, which its threads share.
+//! What a live run is given, and its means: two values that its threads share.
 ghost use Rattle.std.specs.Prelude.{◌≡◌, length, map};
 ghost use Rattle.nms_live.specs.Answering.{AreOwn};
 ghost use Rattle.nms_live.specs.Reading.{text_of};
@@ -24,7 +24,7 @@ pub struct Given<'g> {
     ghost parted: { AreOwn orders.items by_desk.items },
 }
 
-/// What a live run works with.
+/// The means of a live run.
 #[derive(Drop)]
 pub struct Means<'m, R, G> {
     pub(crate) rt: &'m R,
@@ -33,7 +33,7 @@ pub struct Means<'m, R, G> {
 }
 
 impl<'g> Given<'g> {
-    /// The most changes that the tape can come to, if each record of the feeds ends with a line feed.
+    /// The most changes that the tape can have, if each record of the feeds ends with a line feed.
     pub(crate) fn most_changes(&self) -> usize {
         let most = self.setup.tape_limit() as usize;
         let mut records = most.min(self.feeds.len());
@@ -60,7 +60,7 @@ fn line_feeds(text: &[u8]) -> usize {
     found
 }
 
-/// The text of a feed, from texts in order of place. A feed beyond them has no bytes.
+/// The text of a feed, from texts in order of place. A feed beyond them has an empty text.
 pub(crate) fn text_of(feeds: &[Vec<u8>], feed: Feed) -> &[u8]
     ensures { result.now ≡ text_of feed (map (λ text. text.items) feeds.now) }
 {

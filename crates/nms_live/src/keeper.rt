@@ -1,4 +1,4 @@
-//! What the taker keeps while a run goes on: the publisher, the lengths published, and its own fault (specs/Keeping).
+//! What the taker keeps while a run goes on: the publisher, the published lengths, and its own fault (specs/Keeping).
 ghost use Rattle.std.specs.Prelude.{◌≡◌, ℕ, ◌+◌, ◌≤◌, ◌⊎◌, ◌↔◌, ◌++◌, ◌∷◌, [], length, None, MatchBool};
 ghost use Rattle.std.specs.List.{Contains};
 ghost use Rattle.std.specs.Vec.{vec_len, vec_capacity};
@@ -18,7 +18,7 @@ use std::alloc::Global;
 use std::marker::Model;
 use std::sync::Wait;
 
-/// Takes changes in and publishes them. After a fault it does nothing. It is not `Drop`: end it by `end`.
+/// Takes changes in and publishes them. After a fault it does nothing. It is not `Drop`, so end it by `end`.
 pub struct Keeper {
     publisher: Publisher,
     /// The length of the tape at each publishing.
@@ -41,8 +41,8 @@ impl Model for Keeper {
 }
 
 impl Keeper {
-    /// Keeps a tape that was just opened. It makes room for n changes and publishings, if there is memory: so
-    /// nothing that was taken in has to move while the feeds send.
+    /// A keeper of a tape that was just opened. If there is memory, it makes room for n changes and publishings. So nothing
+    /// that was taken in has to move while the feeds send.
     pub(crate) fn new(alloc: Global, mut publisher: Publisher, changes: usize) -> Self
         requires { publisher.published ≡ [] }
         ensures { result ≡ record { taped = publisher; listed = []; stop = None } }
@@ -58,7 +58,7 @@ impl Keeper {
         }
     }
 
-    /// Why it stopped, if it did.
+    /// Why the keeper stopped, if it did.
     pub(crate) fn stop(&self) -> Option<LiveFault>
         ensures stop { result ≡ self.now.stop }
         ensures no_line { IsNoLineIfAny result }
@@ -66,7 +66,7 @@ impl Keeper {
         self.stop
     }
 
-    /// Whether something was taken in since the last publishing.
+    /// Whether any change was taken in since the last publishing.
     pub(crate) fn has_waiting(&self) -> bool {
         self.waiting > 0
     }
@@ -106,7 +106,7 @@ impl Keeper {
         }
     }
 
-    /// Publishes the whole tape.
+    /// Publishes all of the tape.
     pub(crate) fn publish<R: Wait, G: Gate>(&mut self, means: &Means<'_, R, G>)
         ensures same { IsSameKeeping self.old self.new }
         ensures tape { self.new.stop ≡ None → (self.old.stop ≡ None) × (tape_of self.new.taped ≡ tape_of self.old.taped) }
@@ -141,7 +141,7 @@ impl Keeper {
         self.publisher.receipt()
     }
 
-    /// Ends the publishing, and returns the tape and the lengths published.
+    /// Ends the publishing, and returns the tape and the published lengths.
     pub(crate) fn end<R: Wait>(self, rt: &R) -> (Vec<Change>, Vec<u64>)
         ensures tape { result.0.items ≡ tape_of self.taped }
         ensures within { length result.0.items ≤ self.taped.limit }
@@ -160,7 +160,7 @@ impl Keeper {
     }
 }
 
-/// Publishes the whole tape and lists its length, for which there is room.
+/// Publishes all of the tape and lists its length, for which there is room.
 fn publish_now<R: Wait>(rt: &R, publisher: &mut Publisher, listed: &mut Vec<u64>)
     requires room { vec_len listed.old + 1 ≤ vec_capacity listed.old }
     ensures published { publisher.new ≡ record publisher.old { published = committed publisher.old.published publisher.old.pending; pending = [] } }

@@ -1,5 +1,5 @@
-//! The live run: one to eight feeds send, a taker publishes, desks plan on what is published, each in its own thread.
-//! What they all did together is proved.
+//! The live run. One to eight feeds send, a taker publishes, and desks plan on what is published, each in its own thread. It is
+//! proved what they all did together.
 #![tactic(auto)]
 
 mod closing;
@@ -21,12 +21,11 @@ mod own_orders;
 mod taking;
 mod workers;
 
-/// How many changes are appended at most before the tape is published. This product's own rule.
+/// The most changes that are appended before the tape is published. This product's own rule.
 pub const MOST_WAITING: u64 = 64;
 /// How many turns a thread waits at a gate. This product's own rule.
 pub const MOST_TURNS: u32 = 1_000_000;
-/// In how many of those turns it may rest, the first ones: so a gate that never opens ends a run within seconds. This
-/// product's own rule.
+/// In how many of the first turns it may rest, so that a gate that never opens ends a run within seconds. This product's own rule.
 pub const MOST_RESTS: u32 = 1_024;
 
 pub use gate::{Gate, GatePoint, OpenGate};

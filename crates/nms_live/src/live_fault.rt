@@ -1,4 +1,4 @@
-//! Why a live run gave nothing (specs/Faults).
+//! Why a live run gave no result (specs/Faults).
 ghost use Rattle.std.specs.Prelude.{◌≡◌};
 ghost use Rattle.nms_live.specs.Faults.{code_of, rank_of, status_of};
 
@@ -7,21 +7,21 @@ use nms_quote::Feed;
 use std::fmt;
 use thiserror::Error;
 
-/// Why a live run gave nothing. All threads have ended, and nothing is left of it.
+/// Why a live run gave no result. All threads have ended, and nothing of the run is kept.
 #[derive(Clone, Copy, Debug, PartialEq, Eq, Error)]
 pub enum LiveFault {
     /// E5: a record of a feed was refused, the first one of that feed.
     Line {
         /// The feed.
         feed: Feed,
-        /// The record's number in its feed, from 1.
+        /// The record's number in its feed, counted from 1.
         number: u64,
         /// Its fault.
         fault: LineFault,
     },
     /// E6: no tape or lane was opened, or a thread could not be started.
     Open,
-    /// E7: a change could not be appended: the tape was full, or memory ran out.
+    /// E7: a change could not be appended, because the tape was full or out of memory.
     Append,
     /// E8: a look gave no reading, or a desk could not be settled.
     Desk,
@@ -46,7 +46,7 @@ impl LiveFault {
         }
     }
 
-    /// The exit status of a program that it ends: 6 for a line of a feed, 7 for the run, 5 for memory.
+    /// The exit status of a program that ends with it: 6 for a line of a feed, 7 for the run, 5 for memory.
     pub fn status(self) -> u8
         ensures { result ≡ status_of self }
     {
@@ -57,7 +57,7 @@ impl LiveFault {
         }
     }
 
-    /// The fault's rank: a run answers the fault of least rank.
+    /// The fault's rank. A run answers with the fault of least rank.
     pub(crate) fn rank(self) -> u8
         ensures { result ≡ rank_of self }
     {

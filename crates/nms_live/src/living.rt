@@ -24,12 +24,12 @@ use std::alloc::Global;
 use std::sync::Wait;
 use std::thread::Threads;
 
-/// Reads the setup's feeds, given in order of letter, each in its own thread, and appends their changes to one tape.
-/// The tape is published from time to time; each desk answers its orders meanwhile, in its own thread, on what is
-/// published. Then each desk answers them again on the whole tape.
+/// Reads the setup's feeds, given in order of letter, each in its own thread, and appends their changes to one tape. The tape
+/// is published from time to time. Meanwhile each desk answers its orders in its own thread, on what is published. Then each
+/// desk answers them again on the complete tape.
 ///
-/// Each answer is the best lawful plan on its version of the tape, which was published, and no desk goes back to an
-/// older version. `Line` names the first refused record of a feed. After a fault all threads have ended.
+/// Each answer is the best lawful plan on its version of the tape, which was published, and no desk goes back to an older
+/// version. `Line` names the first refused record of a feed. After a fault all threads have ended.
 pub fn run_live<R: Threads + Wait + Sync, G: Gate>(
     rt: &R,
     alloc: Global,
@@ -56,7 +56,7 @@ pub fn run_live<R: Threads + Wait + Sync, G: Gate>(
     run_over(&Means { rt, alloc, gate }, &given)
 }
 
-/// The live run over what it is given.
+/// The live run over the texts and orders that it is given.
 fn run_over<R: Threads + Wait + Sync, G: Gate>(
     means: &Means<'_, R, G>,
     given: &Given<'_>,

@@ -32,8 +32,8 @@ fn take_one<R: Wait, G: Gate>(
     }
 }
 
-/// Takes changes and publishes them until all feeds have ended and nothing is found any more. A taker ahead of its
-/// feeds publishes what it has and waits a turn: if it looked again at once, it would publish each change alone.
+/// Takes changes and publishes them until all feeds have ended and no further change is found. A taker that is ahead of its
+/// feeds publishes what it has and waits a turn. If it looked again at once, it would publish each change separately.
 pub(crate) fn take_until_ended<R: Wait, G: Gate>(
     means: &Means<'_, R, G>,
     given: &Given<'_>,
@@ -60,7 +60,7 @@ pub(crate) fn take_until_ended<R: Wait, G: Gate>(
     unreachable!()
 }
 
-/// Takes what is left once all feeds have ended, and publishes the whole tape.
+/// Takes what is left once all feeds have ended, and publishes all of the tape.
 pub(crate) fn take_rest<R: Wait, G: Gate>(
     means: &Means<'_, R, G>,
     keeper: &mut Keeper,

@@ -19,7 +19,7 @@ use std::sync::Wait;
 use std::thread;
 use std::thread::{Scope, Threads};
 
-/// Runs all workers in a scope of their own.
+/// Runs all workers in their own scope.
 pub(crate) fn run_in_threads<R: Threads + Wait + Sync, G: Gate>(
     means: &Means<'_, R, G>,
     given: &Given<'_>,
@@ -85,7 +85,7 @@ fn run_workers<'s, E, R: Threads + Wait + Sync, G: Gate>(
     }
 }
 
-/// Ends a loan: what is known of the keeper that was lent is known of it from here on.
+/// Ends a loan, so that what is known about the keeper that was lent is known from here on.
 fn take_back(keeper: &mut Keeper)
     ensures { keeper.new ≡ keeper.old }
 {

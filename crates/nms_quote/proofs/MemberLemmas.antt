@@ -9,7 +9,7 @@ use Rattle.std.proofs.lemmas.Nat.Bits.{bit_at-lt, bit_at-pow_other, bit_at-pow_s
 use Rattle.std.proofs.lemmas.Nat.Bits.{shr_and_one}
 use Rattle.nms_quote.specs.Members.{AreSetsByMembers, has_part, nobody, with_part}
 
--- nobody is in the set of nobody
+-- no participant is in the empty set
 pub has-nobody : (place : ℕ) → has_part nobody place ≡ false
 unfolding has_part
 has-nobody place = rw (bit_at-zero place) refl

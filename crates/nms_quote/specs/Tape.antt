@@ -7,7 +7,7 @@ use Rattle.nms_quote.specs.declared.change.Change.TheVariants as change
 abbrev pub Tape : Type 0
 Tape = List Change
 
--- the participant that sends a change. Nobody sends a new round lot
+-- the participant that sends a change. A new round lot is sent by none
 abbrev pub participant_of : Change → Option ℕ
 participant_of (change.Quote part sym state bid offer) = Some part
 participant_of (change.State part sym state) = Some part
@@ -18,7 +18,7 @@ participant_of (change.Lot sym lot) = None
 abbrev pub version : ℕ → Tape → Tape
 version n tape = take n tape
 
--- every version, from the empty tape to the whole one
+-- every version, from the empty tape to the complete one
 abbrev pub versions : Tape → List Tape
 versions [] = [] ∷ []
 versions (change ∷ changes) = [] ∷ map (λ tape. change ∷ tape) (versions changes)

@@ -7,10 +7,10 @@ use crate::plan::Plan;
 pub struct Answer {
     /// The desk.
     pub desk: u8,
-    /// The order's place among all orders, from 0.
+    /// The order's place among all orders, counted from 0.
     pub number: usize,
-    /// The plan, with the version that it was made on.
+    /// The plan, with the version on which it was made.
     pub plan: Plan,
-    /// The certificate that no lawful plan fills more, or as much for less with fees.
+    /// The certificate that no lawful plan fills more shares, or as many for less, fees included.
     pub certificate: Certificate,
 }

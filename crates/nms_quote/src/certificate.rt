@@ -2,12 +2,12 @@
 use arrayvec::ArrayVec;
 use nms_units::{Money, Price};
 
-/// Why no plan that trades at a price, and at no worse one, is better.
+/// Why no plan is better that trades at a price, and at no worse one.
 #[derive(Clone, Copy, Debug, PartialEq, Eq)]
 pub enum CutKind {
     /// The protected quotations better than the price are more than can be filled.
     TooMuch,
-    /// All that may be traded with at the price or better is less than can be filled.
+    /// All shares that may be traded with at the price or better are fewer than can be filled.
     TooLittle,
     /// A plan's least cost, shown by the cost of one more share, in nanodollars: -10^18 to 10^18 in a lawful
     /// certificate.
@@ -17,9 +17,9 @@ pub enum CutKind {
 /// A certificate's statement about one price.
 #[derive(Clone, Copy, Debug, PartialEq, Eq)]
 pub struct Cut {
-    /// In 1/10,000 dollar.
+    /// The price, in 1/10,000 dollar.
     pub price: Price,
-    /// What it says.
+    /// The reason that it gives.
     pub kind: CutKind,
 }
 

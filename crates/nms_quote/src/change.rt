@@ -1,4 +1,4 @@
-//! What a tape is made of: `specs/Tape`.
+//! The changes of which a tape is made: `specs/Tape`.
 ghost use Rattle.std.specs.Prelude.{◌≡◌};
 
 use crate::participant::Part;
@@ -12,9 +12,9 @@ use nms_units::Lot;
 pub enum Change {
     /// Both sides of a symbol, `None` if there is no quotation, and their state.
     Quote {
-        /// Who sends it.
+        /// The participant that sends it.
         part: Part,
-        /// What is quoted.
+        /// The symbol that is quoted.
         sym: Sym,
         /// The state of both sides.
         state: QState,
@@ -23,24 +23,23 @@ pub enum Change {
         /// The best offer, in the same form.
         offer: Option<SideQuote>,
     },
-    /// The state of the symbol's quotations alone.
+    /// Only the state of the symbol's quotations.
     State {
-        /// Who sends it.
+        /// The participant that sends it.
         part: Part,
         /// The symbol whose state changes.
         sym: Sym,
-        /// The state of both sides from now on.
+        /// The new state of both sides.
         state: QState,
     },
     /// No quotation on any symbol.
     Withdraw {
-        /// Who sends it.
+        /// The participant that sends it.
         part: Part,
     },
-    /// The symbol's round lot from now on, after its average closing price (17 CFR 242.600, "round
-    /// lot"). No participant sends it.
+    /// The symbol's new round lot, after its average closing price (17 CFR 242.600, "round lot"). No participant sends it.
     Lot {
-        /// Whose round lot changes.
+        /// The symbol whose round lot changes.
         sym: Sym,
         /// The new round lot, 1 to 1,000 shares.
         lot: Lot,
@@ -51,7 +50,7 @@ impl Change {
     ghost use Rattle.std.specs.Prelude.{◌≡◌};
     ghost use Rattle.nms_quote.specs.Tape.{participant_of};
 
-    /// The participant that sends the change; nobody sends a new round lot.
+    /// The participant that sends the change. A new round lot is sent by no participant.
     pub fn part(&self) -> Option<Part>
         ensures { result ≡ participant_of self.now }
     {

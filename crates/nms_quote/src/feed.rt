@@ -4,30 +4,30 @@ ghost use Rattle.nms_quote.specs.Merge.{feeds, place_of};
 
 use crate::MOST_FEEDS;
 
-/// The feed that a participant sends its changes on. A setup says how many there are, in order of letter
-/// (this product's own rule).
+/// The feed on which a participant sends its changes. A setup says how many there are, in order of letter (this product's own
+/// rule).
 #[derive(Clone, Copy, Debug, PartialEq, Eq)]
 pub enum Feed {
-    /// The first. New round lots come on it, whatever the symbol.
+    /// The first feed. The new round lots of all symbols come on it.
     A,
-    /// The second.
+    /// The second feed.
     B,
-    /// The third.
+    /// The third feed.
     C,
-    /// The fourth.
+    /// The fourth feed.
     D,
-    /// The fifth.
+    /// The fifth feed.
     E,
-    /// The sixth.
+    /// The sixth feed.
     F,
-    /// The seventh.
+    /// The seventh feed.
     G,
-    /// The eighth, and last.
+    /// The eighth feed, and the last.
     H,
 }
 
 impl Feed {
-    /// The feed at a place, or `None` from `MOST_FEEDS` on.
+    /// The feed at a place; `None` from `MOST_FEEDS` on.
     pub fn at(place: u8) -> Option<Self>
         ensures { result ≡ slice_get feeds place }
     {

@@ -1,10 +1,10 @@
-//! Where to look first for a name.
+//! Hints for where to look first for a name.
 use std::alloc::{AllocError, Global};
 
 /// How many hints there are.
 const HINTS: usize = 8192;
 
-/// A place for each name that is tried before any other. A hint may be wrong: two names may share one, and an unknown
+/// A place for each name that is tried before any other. A hint may be wrong, because two names may share one, and an unknown
 /// name has one. So the caller compares the name at the place.
 #[derive(Drop)]
 pub(crate) struct Hints {
@@ -38,7 +38,7 @@ impl Hints {
     }
 }
 
-/// The place of a name's hint: the name as a number, spread over the hints by the golden ratio.
+/// The place of a name's hint, which is the name as a number, spread over the hints by the golden ratio.
 fn slot_of(word: u64) -> usize {
     (word.wrapping_mul(0x9e37_79b9_7f4a_7c15) >> 51) as usize
 }

@@ -1,4 +1,4 @@
-//! A change and where it came from: `specs/Merge`.
+//! A change and its feed: `specs/Merge`.
 use crate::change::Change;
 use crate::feed::Feed;
 

@@ -17,7 +17,7 @@ use std::marker::Model;
 pub(crate) struct NameTable<V: Copy> {
     entries: IndexMap<String, V>,
     words: Vec<u64>,
-    /// The values once more, since a record looks up two of them.
+    /// A copy of the values, because a record looks up two of them.
     values: Vec<V>,
     hints: Hints,
 }
@@ -59,7 +59,7 @@ impl<V: Copy> NameTable<V> {
         self.entries.len()
     }
 
-    /// The place of the entry of that name.
+    /// The place of the entry with that name.
     pub(crate) fn find(&self, name: &[u8]) -> Option<usize>
         ensures place { result ≡ place_in self.now name.now }
         ensures within { IfSome result (λ place. place < length self.now) }
@@ -106,8 +106,8 @@ impl<V: Copy> NameTable<V> {
         self.values[place]
     }
 
-    /// Why an entry may not be added, the first reason that holds: its name's form, its name is there already, or
-    /// `most` entries are there.
+    /// Why an entry may not be added, the first reason that holds: its name's form, its name is there already, or `most`
+    /// entries are there.
     pub(crate) fn refusal(&self, name: &[u8], is_name: bool, most: usize) -> Option<RosterFault>
         ensures reason { result ≡ refusal_in (λ _. is_name) most self.now name.now }
         ensures formed { IfNone result (is_name ≡ true) }

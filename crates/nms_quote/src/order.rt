@@ -1,4 +1,4 @@
-//! What is to be traded: `specs/Terms`.
+//! The terms of an order: `specs/Terms`.
 ghost use Rattle.std.specs.Prelude.{◌≡◌, ℕ, ◌≤◌};
 ghost use Rattle.std.specs.Option.{SomeIff};
 
@@ -7,12 +7,12 @@ use crate::symbol::Sym;
 use nms_units::{Price, Shares};
 use std::marker::Model;
 
-/// Which way an order trades.
+/// Whether an order buys or sells.
 #[derive(Clone, Copy, Debug, PartialEq, Eq)]
 pub enum OrderSide {
-    /// Takes offers at the limit price or below.
+    /// A buyer takes offers at the limit price or below.
     Buy,
-    /// Takes bids at the limit price or above.
+    /// A seller takes bids at the limit price or above.
     Sell,
 }
 
@@ -21,15 +21,15 @@ pub enum OrderSide {
 pub struct Order {
     /// Whether it buys or sells.
     pub side: OrderSide,
-    /// What it trades.
+    /// The symbol that it trades.
     pub sym: Sym,
     /// How many shares, 1 to 999,999,999.
     pub shares: Shares,
-    /// The worst price that it may trade at, in 1/10,000 dollar.
+    /// The worst price at which it may trade, in 1/10,000 dollar.
     pub limit: Price,
     /// Whether it may also trade with manual quotations.
     pub manual: bool,
-    /// Participants whose quotations are neither usable nor binding for it: self-help against trading centers whose
+    /// Participants whose quotations are neither usable nor binding for it. This is self-help against trading centers whose
     /// systems fail or answer too late (17 CFR 242.611(b)(1)).
     pub self_help: PartSet,
 }
@@ -50,7 +50,7 @@ impl Model for Order {
 impl Order {
     ghost use Rattle.nms_quote.specs.Terms.{Terms};
 
-    /// An order of those terms, or `None` if it is of 0 shares.
+    /// An order with those terms; `None` if it is of 0 shares.
     pub fn new(
         side: OrderSide,
         sym: Sym,

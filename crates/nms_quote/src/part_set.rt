@@ -1,4 +1,4 @@
-//! Several participants: `specs/Members`.
+//! Sets of participants: `specs/Members`.
 ghost use Rattle.std.specs.Prelude.{◌≡◌, ℕ, ◌==◌, ◌||◌, false};
 ghost use Rattle.nms_quote.specs.Members.{AreSetsByMembers, has_part, nobody, with_part};
 
@@ -24,7 +24,7 @@ impl Model for PartSet {
 }
 
 impl PartSet {
-    /// The set of nobody.
+    /// The empty set.
     pub fn none() -> Self
         ensures set { result ≡ nobody }
         ensures members { (place : ℕ) → has_part result place ≡ false }
@@ -46,7 +46,7 @@ impl PartSet {
         self.mask
     }
 
-    /// The set and this participant too. A participant in it already counts once.
+    /// The set together with this participant. A participant that is in it already counts once.
     pub fn with(self, part: Part) -> Self
         ensures set { result ≡ with_part self part }
         ensures members { (place : ℕ) → has_part result place ≡ (place == part || has_part self place) }
@@ -63,7 +63,7 @@ impl PartSet {
         self.mask >> part.get() & 1 == 1
     }
 
-    /// Whether nobody is in the set.
+    /// Whether the set is empty.
     pub fn is_empty(self) -> bool
         ensures { result ≡ (self == nobody) }
     {

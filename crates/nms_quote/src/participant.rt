@@ -25,7 +25,7 @@ impl Model for Part {
 }
 
 impl Part {
-    /// The participant at a place, or `None` from `MOST_PARTICIPANTS` on.
+    /// The participant at a place; `None` from `MOST_PARTICIPANTS` on.
     pub fn new(place: u8) -> Option<Self>
         ensures { SomeIff result (place < MOST_PARTICIPANTS) place }
     {

@@ -1,4 +1,4 @@
-//! A plan and its legs: what is sent to each participant to fill an order.
+//! A plan and its legs, which are sent to participants to fill an order.
 use crate::order::Order;
 use crate::participant::Part;
 use arrayvec::ArrayVec;
@@ -8,7 +8,7 @@ use nms_units::{Money, Price, Shares};
 /// sweep order").
 #[derive(Clone, Copy, Debug, PartialEq, Eq)]
 pub struct Leg {
-    /// The participant that it goes to.
+    /// The participant to which it goes.
     pub part: Part,
     /// Its limit price, in 1/10,000 dollar.
     pub price: Price,
@@ -31,7 +31,7 @@ impl Default for Leg {
 /// not.
 #[derive(Drop)]
 pub struct Plan {
-    /// The number of the version that it was made on.
+    /// The number of the version on which it was made.
     pub version: u64,
     /// The order.
     pub order: Order,
@@ -39,6 +39,6 @@ pub struct Plan {
     pub legs: ArrayVec<Leg, 32>,
     /// The shares of all legs.
     pub filled: u32,
-    /// What they cost with the participants' fees, in nanodollars; negative for a sale.
+    /// The cost of the shares with the participants' fees, in nanodollars; negative for a sale.
     pub cost: Money,
 }

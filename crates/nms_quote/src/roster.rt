@@ -1,4 +1,4 @@
-//! Who is on the roster: `specs/Roster`.
+//! The participants and symbols of a roster: `specs/Roster`.
 ghost use Rattle.std.specs.Prelude.{◌≡◌, ℕ, ◌<◌, ◌≤◌, ◌↔◌, [], ◌∷◌, ◌++◌, length, option_map, slice_get, nat_lt, true, IsTrue, IfSome, IfOk, IfErr, OnErr};
 ghost use Rattle.nms_quote.specs.Roster.{part_text, place_in, symbol_text, is_part_name, is_symbol_name, part_refusal, sym_refusal, sizes_of, holds, feed_of_change};
 
@@ -21,7 +21,7 @@ pub struct Roster {
     syms: NameTable<Lot>,
 }
 
-/// A `Drop` of its own: a function that holds one then has one call at each exit, and not one for each part (docs/GATE.md).
+/// It has its own `Drop`, so that a function that holds one has one call at each exit, and not one for each part (docs/GATE.md).
 impl Drop for Roster {
     fn drop(self) {
         let Roster { parts: _, syms: _ } = self;
@@ -40,7 +40,7 @@ impl Model for Roster {
 }
 
 impl Roster {
-    /// A roster with nobody on it. Its only refusal is `NoMemory`.
+    /// An empty roster. Its only refusal is `NoMemory`.
     pub fn new(alloc: Global) -> Result<Self, RosterFault>
         ensures empty { IfOk result (λ roster. (roster.parts ≡ []) × (roster.syms ≡ [])) }
         ensures memory { IfErr result (λ fault. fault ≡ RosterFault.NoMemory) }
@@ -51,10 +51,10 @@ impl Roster {
         })
     }
 
-    /// Adds a participant of 1 to 4 of A to Z and 0 to 9 as the last one. Returns its place.
+    /// Adds a participant as the last one, with a name of 1 to 4 of A to Z and 0 to 9. Returns its place.
     ///
-    /// Errors, the first that holds: `BadName` (the form), `Duplicate`, `TooMany` (32 are there). `NoMemory` may come
-    /// only in place of success. An error changes nothing.
+    /// Errors, the first that holds: `BadName` (the form), `Duplicate`, `TooMany` (32 are there). `NoMemory` may come only
+    /// instead of success. An error changes nothing.
     pub fn add_participant(&mut self, name: &[u8], feed: Feed) -> Result<Part, RosterFault>
         ensures added { IfOk result (λ part. (self.new.parts ≡ self.old.parts ++ (name.now, feed) ∷ []) × (self.new.syms ≡ self.old.syms) × (part ≡ length self.old.parts)) }
         ensures unchanged { OnErr result (self.new ≡ self.old) }
@@ -72,10 +72,10 @@ impl Roster {
         Ok(Part::at(place))
     }
 
-    /// Adds a symbol of 1 to 8 of A to Z, 0 to 9 and the point as the last one. Returns its place.
+    /// Adds a symbol as the last one, with a name of 1 to 8 of A to Z, 0 to 9 and the point. Returns its place.
     ///
-    /// Errors, the first that holds: `BadName` (the form), `Duplicate`, `TooMany` (1,000 are there). `NoMemory` may
-    /// come only in place of success. An error changes nothing.
+    /// Errors, the first that holds: `BadName` (the form), `Duplicate`, `TooMany` (1,000 are there). `NoMemory` may come only
+    /// instead of success. An error changes nothing.
     pub fn add_symbol(&mut self, name: &[u8], lot: Lot) -> Result<Sym, RosterFault>
         ensures added { IfOk result (λ sym. (self.new.syms ≡ self.old.syms ++ (name.now, lot) ∷ []) × (self.new.parts ≡ self.old.parts) × (sym ≡ length self.old.syms)) }
         ensures unchanged { OnErr result (self.new ≡ self.old) }
@@ -93,7 +93,7 @@ impl Roster {
         Ok(Sym::at(place))
     }
 
-    /// The participant of that name, or `None` if nobody has it.
+    /// The participant with that name; `None` if there is none.
     pub fn find_part(&self, name: &[u8]) -> Option<Part>
         ensures place { result ≡ place_in self.now.parts name.now }
         ensures within { IfSome result (λ part. part < length self.now.parts) }
@@ -102,7 +102,7 @@ impl Roster {
         Some(Part::at(place))
     }
 
-    /// The symbol of that name, or `None` if none has it.
+    /// The symbol with that name; `None` if there is none.
     pub fn find_sym(&self, name: &[u8]) -> Option<Sym>
         ensures place { result ≡ place_in self.now.syms name.now }
         ensures within { IfSome result (λ sym. sym < length self.now.syms) }
@@ -141,7 +141,7 @@ impl Roster {
         self.parts.value_at(usize::from(part.get()))
     }
 
-    /// The feed that a change belongs to: its participant's, and the first one for a new round lot.
+    /// The feed to which a change belongs. It is its participant's, and the first one for a new round lot.
     pub fn feed_of_change(&self, change: &Change) -> Feed
         requires { holds (sizes_of self.now) change.now ≡ true }
         ensures { feed_of_change self.now change.now ≡ Some result }
@@ -199,7 +199,7 @@ impl Roster {
         }
     }
 
-    /// Whether a symbol is of the roster.
+    /// Whether a symbol is on the roster.
     pub fn has_sym(&self, sym: Sym) -> bool
         ensures { IsTrue result ↔ (sym < length self.now.syms) }
     {

@@ -5,7 +5,7 @@ use thiserror::Error;
 /// Why an entry was not added to a roster, least number first. The roster is unchanged.
 #[derive(Clone, Copy, Debug, PartialEq, Eq, Error)]
 pub enum RosterFault {
-    /// Q1: the name is not of the form.
+    /// Q1: the name does not have its form.
     BadName,
     /// Q2: the name is on the roster already.
     Duplicate,

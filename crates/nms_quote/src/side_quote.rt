@@ -1,4 +1,4 @@
-//! What a participant quotes on one side of a symbol: `specs/Content`.
+//! The quotation of a participant on one side of a symbol: `specs/Content`.
 ghost use Rattle.std.specs.Prelude.{◌≡◌, ℕ, ◌<◌, ◌≤◌};
 ghost use Rattle.std.specs.Option.{SomeIff};
 
@@ -8,10 +8,10 @@ use std::marker::Model;
 /// The two sides of a market (17 CFR 242.600, "bid or offer").
 #[derive(Clone, Copy, Default, PartialEq, Eq)]
 pub enum Side {
-    /// The side of those who would buy: a higher price is better.
+    /// The side of those who would buy, for whom a higher price is better.
     #[default]
     Bid,
-    /// The side of those who would sell: a lower price is better.
+    /// The side of those who would sell, for whom a lower price is better.
     Offer,
 }
 
@@ -19,18 +19,18 @@ pub enum Side {
 /// `Halted` is this product's own rule).
 #[derive(Clone, Copy, Debug, PartialEq, Eq)]
 pub enum QState {
-    /// Ranked and protected.
+    /// The quotations are ranked and protected.
     Automated,
-    /// Ranked and not protected.
+    /// The quotations are ranked and not protected.
     Manual,
-    /// Not ranked.
+    /// The quotations are not ranked.
     Halted,
 }
 
-/// A price and at least one share: what a participant quotes on one side of a symbol.
+/// A price and at least one share, which a participant quotes on one side of a symbol.
 #[derive(Clone, Copy, Debug, PartialEq, Eq)]
 pub struct SideQuote {
-    /// In 1/10,000 dollar.
+    /// The price, in 1/10,000 dollar.
     pub price: Price,
     /// The message's shares, 1 to 999,999,999, not yet rounded down to whole lots.
     pub shares: Shares,
@@ -52,7 +52,7 @@ impl Model for SideQuote {
 impl SideQuote {
     ghost use Rattle.nms_quote.specs.Content.{Content};
 
-    /// A quote of one side, or `None` if the shares are 0.
+    /// A quote of one side; `None` if the shares are 0.
     pub fn new(price: Price, shares: Shares) -> Option<Self>
         ensures { SomeIff result (1 ≤ shares) (record { price = price; shares = shares }) }
     {

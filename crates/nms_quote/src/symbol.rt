@@ -25,7 +25,7 @@ impl Model for Sym {
 }
 
 impl Sym {
-    /// The symbol at a place, or `None` from `MOST_SYMBOLS` on.
+    /// The symbol at a place; `None` from `MOST_SYMBOLS` on.
     pub fn new(place: u16) -> Option<Self>
         ensures { SomeIff result (place < MOST_SYMBOLS) place }
     {

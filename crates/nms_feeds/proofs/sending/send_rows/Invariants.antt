@@ -5,7 +5,7 @@ use Rattle.nms_lines.specs.Records.{ReadsFrom}
 use Rattle.nms_feeds.specs.Streams.{IsCounted, IsSentOf}
 use Rattle.nms_feeds.proofs.sending.send_rows.Given as goal
 
--- of the records read so far this was sent
+-- this was sent for the records read so far
 abbrev pub invariant-loop : goal.invariant-loop
 invariant-loop g l = record {
   lane : l.sender.lane ≡ l.fn.sender.lane;

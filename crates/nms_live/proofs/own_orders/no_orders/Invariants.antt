@@ -3,7 +3,7 @@ use Rattle.std.proofs.Common.{◌≡◌, [], length}
 use Rattle.nms_live.specs.Answering.{AreOwn}
 use Rattle.nms_live.proofs.own_orders.no_orders.Given as goal
 
--- n rows stand, each with no orders
+-- there are n rows, each with no orders
 abbrev pub invariant-loop : goal.invariant-loop
 invariant-loop l = record {
   all : length l.rows.items ≡ l.counter;

@@ -1,4 +1,4 @@
--- `run_in_threads`, clause `fault`: it is the last of the clauses of what the scope ran, which stand in their order.
+-- `run_in_threads`, clause `fault`: it is the last of the clauses of what the scope ran, which are in their order.
 use Rattle.std.proofs.Common.{arith}
 use Rattle.std.proofs.lemmas.Grind.{common_steps}
 use Rattle.nms_live.proofs.workers.run_in_threads.Goals as goal

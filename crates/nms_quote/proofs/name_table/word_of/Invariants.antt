@@ -4,7 +4,7 @@ use Rattle.std.specs.List.{list_all}
 use Rattle.nms_quote.specs.Names.{number_after, is_digit}
 use Rattle.nms_quote.proofs.name_table.word_of.Given as goal
 
--- the bytes so far are digits; the rest of them after the number makes the whole
+-- the bytes so far are digits; the rest of them after the number makes the result
 abbrev pub invariant-loop-c : goal.invariant-loop-c
 invariant-loop-c l = record {
   digits : list_all is_digit (take l.c-index l.text) ≡ true;

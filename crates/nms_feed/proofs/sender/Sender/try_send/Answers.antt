@@ -6,7 +6,7 @@ use Rattle.nms_feed.proofs.sender.Sender.try_send.Goals as goal
 
 pub push_as-requires-clause-rule : goal.push_as-requires-clause-rule
 push_as-requires-clause-rule g c =
-    rw c.self.invariant.1.one (
+    rw (c.self.invariant.1.one, c.of-packed.ensures.packed) (
       sends _ _ _ _ _ (omega (arith, ap (λ s. length s.sent) c.self.view_is, c.requires.room)),
       λ items views kept at. tt,
     )

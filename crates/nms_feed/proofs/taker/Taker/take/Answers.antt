@@ -1,5 +1,6 @@
 -- `take`: the rule stays when a change is taken, by `takes`.
-use Rattle.std.proofs.Common.{arith, ◌++◌, ◌∷◌, [], ap, ◌∙◌}
+use Rattle.std.proofs.Common.{arith, ◌++◌, ◌∷◌, [], ap, sym, ◌∙◌}
+use Rattle.nms_quote.specs.declared.change.Change.{Change}
 use Rattle.std.proofs.lemmas.Grind.{common_steps}
 use Rattle.nms_feed.specs.Known.{taken_in}
 use Rattle.nms_feed.specs.Lane.{Taking}
@@ -17,7 +18,9 @@ returns-clause-taken g c =
       λ i. record {
         lane = (c.pop_as.ensures.queue.0 ∙ ap (λ (t : Taking). t.lane) was) i;
         senders = (was i).senders;
-        taken = (ap taken_in c.in_ok-marked.ensures.rule.0 ∙ ap (λ (t : Taking). t.taken ++ marked ∷ []) was) i;
+        taken = (ap taken_in c.in_ok-marked.ensures.rule.0 ∙ ap (λ (t : Taking). t.taken ++ marked ∷ []) was
+            ∙ ap (λ (change : Change). c.args.self.now.taken ++ record { feed = marked.feed; change = change } ∷ [])
+            (sym c.change.ensures.change)) i;
       },
     )
 

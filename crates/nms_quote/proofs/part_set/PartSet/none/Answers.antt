@@ -1,4 +1,4 @@
--- `PartSet::none`: nobody is in it, by `has-nobody`.
+-- `PartSet::none`: no participant is in it, by `has-nobody`.
 use Rattle.nms_quote.proofs.MemberLemmas.{has-nobody}
 use Rattle.nms_quote.proofs.part_set.PartSet.none.Goals as goal
 
