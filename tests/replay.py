@@ -9,6 +9,7 @@ A run is right if the tape is a merge of the feeds' accepted records, each answe
 versions fall, and the answers are byte for byte what TOOL answers to the script that is built of the tape, the published
 lengths and the requests. Each run that is not is printed with its seed. The last line is `N passed, M failed`.
 """
+import calendar
 import contextlib
 import os
 import random
@@ -50,7 +51,7 @@ def check(what, holds, shown=""):
 # ---- the replay
 
 def records(text):
-    """The records of a stream of whole lines: each line that is not passed on is `?`."""
+    """The records of a stream of complete lines: each line that is not passed on is `?`."""
     lines = text.split(b"\n")
     last = lines.pop()
     found = []
@@ -118,7 +119,7 @@ def line_of(part, sym, state, sides):
 
 def opening_of(lines, parts, lots):
     """The opening changes of a tape's board, from all that it says: of each symbol its lot, if it is not the setup's, and then
-    the sides that stand in order of receipt, each with those of its participant that came before."""
+    the quoted sides in order of receipt, each with those of its participant that came before."""
     tape, found = [said_in(line) for line in lines], []
     for sym, opened in lots.items():
         now = rules.lot(tape, sym, lots)
@@ -156,7 +157,7 @@ def script_of(changes, published, asked, queue):
 
 
 def expected(tool, setup, epochs, clients):
-    """What TOOL answers, for each epoch a script: for each client a list of answers, from the epochs and versions of its own."""
+    """What TOOL answers, for each epoch a script: for each client a list of answers, from its own epochs and versions."""
     with open(setup, "rb") as file:
         queue = tomllib.load(file)["queue"]
     asked, wanted = [[] for _ in epochs], [[None] * len(asks) for asks, _ in clients]
@@ -182,7 +183,7 @@ def expected(tool, setup, epochs, clients):
 
 
 def check_epochs(what, setup, epochs, resumed=False):
-    """Whether each epoch's tape is whole and published in batches, and begins with the opening changes of the one before; and
+    """Whether each epoch's tape is complete and published in batches, and begins with the opening changes of the one before; and
     how many opening changes each has. If a run was resumed, an epoch may begin before the tape is full."""
     with open(setup, "rb") as file:
         told = tomllib.load(file)
@@ -268,7 +269,7 @@ class Drawn:
         return self.base + self.chance.randrange(-8, 9) * 100
 
     def draw_change(self, letter):
-        """A change of a feed: as it is sent, and as it stands on the tape."""
+        """A change of a feed: as it is sent, and as it is on the tape."""
         chance = self.chance
         part = chance.choice([name for name, feed in self.parts.items() if feed == letter])
         sym, state = chance.choice(self.syms), chance.choice("AAAAMH")
@@ -480,6 +481,15 @@ class Failing:
         faults = [line for line in errors.split("\n") if re.match(r"nms_serve: ([A-Z]\d|usage)\b", line)]
         return check(self.what, (got, faults) == (status, [f"nms_serve: {said}"]), (got, errors[-400:]))
 
+    def refuses(self, words, status, said, **how):
+        """A call is refused like this, by --check as by the run itself, and no file is made or altered."""
+        def files():
+            return {name: os.path.isfile(self.room.path(name)) and bytes_of(self.room.path(name)) for name in os.listdir(self.room.folder)}
+        before = files()
+        for more in (["--check"], []):
+            self.ends(self.room.start(*words, *more, **how), status, said)
+            check(f"{self.what} {more}: nothing is made or altered", files() == before, sorted(files()))
+
     def tape_is(self, wanted):
         with open(self.tape, "rb") as file:
             text = file.read()
@@ -510,14 +520,13 @@ def refused_words(program, tool):
     )
     for what, words, said in usages:
         with Failing(program, tool, what) as it:
-            it.ends(it.room.start("--setup", it.setup, "--tape", "t", *words, cwd=it.room.folder), 2, f"usage: {said}")
+            it.refuses(["--setup", it.setup, "--tape", "t", *words], 2, f"usage: {said}", cwd=it.room.folder)
     with Failing(program, tool, "a tape with something in it") as it:
         it.room.write("tape", "Q\n")
-        it.ends(it.room.start(*it.words("/dev/null")), 2, f"usage: a file of the tape is there already: {it.tape}")
-        it.tape_is(b"Q\n")
+        it.refuses(it.words("/dev/null"), 2, f"usage: a file of the tape is there already: {it.tape}")
     with Failing(program, tool, "no setup") as it:
         none = it.room.path("none")
-        it.ends(it.room.start("--setup", none, "--tape", it.tape, "--feed", "A=a"), 1, f"E1: the setup could not be read: {none}: {NO_FILE}")
+        it.refuses(["--setup", none, "--tape", it.tape, "--feed", "A=a"], 1, f"E1: the setup could not be read: {none}: {NO_FILE}")
 
 
 def failing_paths(program, tool):
@@ -575,7 +584,7 @@ def bytes_of(path):
 
 
 def full_tape(program, tool):
-    """A tape that is full: the next epoch goes on in files of its own, which have to be empty."""
+    """A tape that is full: the next epoch goes on in its own files, which have to be empty."""
     with Failing(program, tool, "a tape without room for epochs", SETUP.replace("1000000", "9")) as it:
         said = "E6: tape_limit has to be 10 at least: twice the most opening changes, 2 a participant and 1, for each symbol"
         it.ends(it.room.start(*it.words("/dev/null")), 3, said)
@@ -595,7 +604,7 @@ def full_tape(program, tool):
         Heard(it.room.start(*it.words("/dev/null"))).ends(it.what, 0)
     for count, last in ((10, 0), (11, 1), (18, 1), (19, 2)):
         with Failing(program, tool, f"{count} changes on tapes of 10", SHORT) as it:
-            # Two sides of one participant stand with two receipts: the second epoch begins with two opening changes.
+            # Two sides of one participant are quoted with two receipts: the second epoch begins with two opening changes.
             feed = it.room.write("a", GOOD + b"".join(GOOD.replace(b"10.01", b"10.%02d" % (place + 2)) for place in range(count - 1)))
             status, _, errors = end_of(it.what, it.room.start(*it.words(feed)))
             told = f", up to epoch {last}\n" if last else " times\n"
@@ -644,7 +653,7 @@ def epoch_borders(program, tool):
                 feed.write(GOOD)
                 border = version == 10
                 epoch, version = (epoch + 1, 2) if border else (epoch, version + 1)
-                # Both sides stand with one receipt: one opening change, then this change.
+                # Both sides are quoted with one receipt: one opening change, then this change.
                 lines, until = b"", time.monotonic() + 20
                 while time.monotonic() < until:
                     answer = asked(b"N,0,ABC\n")
@@ -690,111 +699,6 @@ def texts_of(tape):
     return {name: bytes_of(f"{folder}/{name}") for name in sorted(os.listdir(folder)) if name.startswith(base)}
 
 
-def left_by(tape):
-    """What a killed run has left, by a plain reckoning: the last epoch of which something was published and its changes, the epoch
-    that begins next, how many changes are cut, and how many of a begun epoch."""
-    last = 0
-    while os.path.exists(name_of(tape, last + 1)):
-        last += 1
-
-    def read(epoch):
-        path = name_of(tape, epoch)
-        whole = bytes_of(f"{path}.published").split(b"\n")[:-1] if os.path.exists(f"{path}.published") else []
-        lines, count = bytes_of(path).split(b"\n"), int(whole[-1]) if whole else 0
-        return lines[:count], len(lines) - count - (lines[-1] == b"")
-
-    published, cut = read(last)
-    if published or not last:
-        return last, published, last + bool(published), cut, None
-    before, nothing = read(last - 1)
-    return last - 1, before, last, nothing, cut
-
-
-def ranks_of(tool, setup, path, syms):
-    """The ranks of each symbol on a tape, without versions and receipts."""
-    said = {}
-    for sym in syms:
-        ran = subprocess.run([tool, "report", "--setup", setup, path, sym], stdout=subprocess.PIPE, check=False, timeout=MOST)
-        head, *rows = ran.stdout.split(b"\n")[:-1]
-        said[sym] = ran.returncode, head.split()[2:], [row.split()[:4] + row.split()[5:] for row in rows]
-    return said
-
-
-def saw_published(what, tape, answers):
-    """Whether each version that a client of a killed run saw was published before, and is whole in the tape."""
-    epoch, good = 0, True
-    for line in bytes_of(answers).split(b"\n")[:-1]:
-        kind, *fields = line.split(b",")
-        epoch = int(fields[0]) if kind == b"EPOCH" else epoch
-        if kind in (b"BEST", b"PLAN", b"THRU"):
-            version, path = version_of(line), name_of(tape, epoch)
-            lengths = [0, *map(int, bytes_of(f"{path}.published").split(b"\n")[:-1])]
-            good &= version in lengths and version <= bytes_of(path).count(b"\n")
-    return check(f"{what}: each version that was seen is published", good)
-
-
-def resumed_runs(program, tool, seed, turns=4, kills=4):
-    """A run that is killed at any moment, and resumed: nothing that was published is lost, each symbol shows the same ranks, and the
-    whole tape, of several runs, is the scripts of its epochs."""
-    for turn in range(turns):
-        chance = random.Random(seed + turn)
-        drawn, room, what = Drawn(chance, True), Room(program, tool), f"killed and resumed, seed {seed + turn}"
-        setup, tape, good = room.write("setup.toml", drawn.setup()), room.path("tape"), True
-        texts = {letter: room.write(f"feed_{letter}", text) for letter, text in drawn.texts.items()}
-        for kill in range(kills + 1):
-            name, left = f"{what}, run {kill}", None
-            if os.path.exists(tape):
-                left = left_by(tape)
-                room.write("before", b"".join(line + b"\n" for line in left[1]))
-            asks = [line for line in drawn.clients[0] if chance.random() < 0.9] + [f"N,0,{sym}\n".encode() for sym in drawn.syms]
-            words = ["--setup", setup, "--tape", tape, "--resume"]
-            for letter, path in texts.items():
-                words += ["--feed", f"{letter}={path if kill < kills else '/dev/null'}"]
-            words += ["--client", f"{room.write('asks', b''.join(asks))},{room.write(f'answers{kill}', b'')}"]
-            started = room.start(*words)
-            heard = Heard(started)
-            if kill < kills:
-                until = time.monotonic() + chance.choice([0.05, 0.3, 0.6, 1.5]) * chance.random()
-                while time.monotonic() < until and started.poll() is None:
-                    time.sleep(0.001)
-                started.kill()
-                started.wait()
-                heard.join(10)
-            else:
-                heard.ends(name, 0)
-            good &= saw_published(name, tape, room.path(f"answers{kill}"))
-            if left is None or not heard.lines:
-                continue
-            last, published, epoch, cut, again = left
-            count = len(published)
-            if epoch:
-                head = f"resumed {name_of(tape, last)}: {cut} changes were cut, "
-                head += f"epoch {epoch} begins with " if again is None else f"and {again} of epoch {epoch}, which begins again with "
-            else:
-                head = f"resumed {tape}: {cut} changes were cut, epoch 0 begins again"
-            told = [line for line in heard.lines if line.startswith("resumed ")]
-            good &= check(f"{name}: it reports what was left", not told and kill < kills or len(told) == 1 and told[0].startswith(head), (told, head, heard.lines[:5]))
-            if not told or not epoch:
-                continue
-            good &= check(f"{name}: the tape is cut", bytes_of(name_of(tape, last)).count(b"\n") == count, count)
-            with open(setup, "rb") as file:
-                lots = {it["name"]: it["lot"] for it in tomllib.load(file)["symbol"]}
-            opened = opening_of(published, list(drawn.parts), lots)
-            now = bytes_of(name_of(tape, epoch)).split(b"\n")[: len(opened)]
-            good &= check(f"{name}: the opening changes", now == opened and told[0] == f"{head}{len(opened)} opening changes", (now[:5], opened[:5], told))
-            room.write("after", b"".join(line + b"\n" for line in now))
-            ranks = [ranks_of(tool, setup, room.path(it), drawn.syms) for it in ("before", "after")]
-            good &= check(f"{name}: the ranks are the same", ranks[0] == ranks[1], ranks)
-            kind, *number = bytes_of(room.path(f"answers{kill}")).split(b"\n")[0].split(b",")
-            over = not kind or kind == b"EPOCH" and int(number[0]) >= epoch
-            good &= check(f"{name}: EPOCH stands before the first answer", over, (kind, number))
-        good &= replay(what, tool, setup, tape, [(bytes_of(room.path("asks")), bytes_of(room.path(f"answers{kills}")))], resumed=True)
-        if good:
-            room.drop()
-        else:
-            print(f"{what}: its files are left in {room.folder}", flush=True)
-
-
 def unresumed(program, tool):
     """What no run has left is refused by its path, and nothing is altered. With nothing there, --resume begins a tape."""
     ten = GOOD.replace(b"9.99", b"9.9900").replace(b"10.01", b"10.0100")
@@ -823,9 +727,7 @@ def unresumed(program, tool):
             for name, text in {"tape.setup": SETUP.encode(), **files}.items():
                 if text is not None:
                     it.room.write(name, text)
-            before = texts_of(it.tape)
-            it.ends(it.room.start(*it.words("/dev/null"), "--resume"), 2, f"usage: {said}: {it.room.path(path)}")
-            check(f"{it.what}: nothing is altered", texts_of(it.tape) == before, before)
+            it.refuses([*it.words("/dev/null"), "--resume"], 2, f"usage: {said}: {it.room.path(path)}")
     left = (
         ("nothing", {}, [], 0, {}),
         ("the setup's file alone, cut", {"tape.setup": SETUP.encode()[:9]}, [], 0, {}),
@@ -840,7 +742,10 @@ def unresumed(program, tool):
         with Failing(program, tool, f"resume: {what}") as it:
             for name, text in ({"tape.setup": SETUP.encode(), **files} if files else {}).items():
                 it.room.write(name, text)
-            heard = Heard(it.room.start(*it.words(it.room.write("a", GOOD)), "--resume"))
+            before = texts_of(it.tape)
+            checked = end_of(it.what, it.room.start(*it.words(it.room.write("a", GOOD)), "--resume", "--check"))
+            check(f"{it.what}: it may be gone on with, and is as before", checked[0] == 0 and texts_of(it.tape) == before, checked)
+            heard = Heard(it.room.start(*it.words(it.room.path("a")), "--resume"))
             heard.ends(it.what, 0)
             lines = [line for line in heard.lines if line.startswith("resumed ")]
             check(f"{it.what}: it reports that", lines == [line.format(tape=it.tape) for line in told], heard.lines)
@@ -850,7 +755,7 @@ def unresumed(program, tool):
         started = it.room.start(*it.words(it.room.fifo("a"), "/dev/null", "--resume"), stdin=subprocess.PIPE)
         with open(it.room.path("a"), "wb"):
             check(f"{it.what}: the first serves", seen(started, 0))
-            it.ends(it.room.start(*it.words("/dev/null"), "--resume"), 2, f"usage: another run has the tape: {it.tape}.setup")
+            it.refuses([*it.words("/dev/null"), "--resume"], 2, f"usage: another run has the tape: {it.tape}.setup")
         started.stdin.close()
         Heard(started).ends(it.what, 0)
 
@@ -883,7 +788,7 @@ def refused_records(program, tool):
         it.ends(it.room.start(*it.words(feed, it.room.fifo("b"), "--strict"), stdin=subprocess.PIPE), 6, "E5: A:2: L6")
 
 
-# Requests to a version that has GOOD alone, and the answer that each must have.
+# Requests to a version that has only GOOD, and the answer that each must have.
 ASKED = (
     (b"N,0,ABC", b"BEST,0,ABC,1,NORMAL,N,9.9900,100,1,N,10.0100,100,1\n"),
     (b"?", b"ERR,2,L1\n"),
@@ -941,7 +846,7 @@ class Heard(threading.Thread):
             self.lines.append(line.decode().removeprefix("nms_serve: ").rstrip("\n"))
 
     def has(self, line, times=1, most=60):
-        """Whether a line came so often, in time."""
+        """Whether a line came this number of times, in time."""
         end = time.monotonic() + most
         while self.lines.count(line) < times and time.monotonic() < end:
             time.sleep(0.005)
@@ -1136,9 +1041,7 @@ def one_file(program, tool):
         with Failing(program, tool, what) as it:
             for name, how in make:
                 how(it, name)
-            before = sorted(os.listdir(it.room.folder))
-            it.ends(it.room.start("--setup", it.setup, *words, cwd=it.room.folder), 2, f"usage: two paths name one file: {first}: {second}")
-            check(f"{it.what}: no file is made", sorted(os.listdir(it.room.folder)) == before)
+            it.refuses(["--setup", it.setup, *words], 2, f"usage: two paths name one file: {first}: {second}", cwd=it.room.folder)
 
     file, fifo = lambda it, name: it.room.write(name, GOOD), lambda it, name: it.room.fifo(name)
     link = lambda it, name: os.link(it.room.path("a"), it.room.path(name))
@@ -1165,8 +1068,64 @@ def one_file(program, tool):
         Heard(it.room.start(*it.words("/dev/null", "/dev/null", "--client", "/dev/null,/dev/null"))).ends(it.what, 0)
 
 
+def only_checked(program, tool):
+    """--check reports what it finds and begins nothing: no file is made, and no FIFO is opened."""
+    with Failing(program, tool, "a check") as it:
+        fifos = [it.room.fifo(name) for name in ("a", "b", "in", "out")]
+        words = [*it.words(*fifos[:2], "--client", ",".join(fifos[2:])), "--keep", "--resume"]
+        writers = [threading.Thread(target=lambda path=path: open(path, "wb").close(), daemon=True) for path in fifos[:3]]
+        for writer in writers:
+            writer.start()
+        before = sorted(os.listdir(it.room.folder))
+        for turn in range(2):
+            status, output, errors = end_of(it.what, it.room.start(*words, "--check"))
+            lines = [line.removeprefix("nms_serve: ") for line in errors.split("\n") if "UNPROVED" not in line]
+            wanted = ["setup: 2 feeds, 2 desks, 2 participants, 1 symbols, tape_limit 1000000", f"feed A: {fifos[0]}: FIFO", f"feed B: {fifos[1]}: FIFO",
+                      f"client 1, requests: {fifos[2]}: FIFO", f"client 1, answers: {fifos[3]}: FIFO", f"tape: {it.tape}: new", "checked: a run would serve", ""]
+            check(f"{it.what}: what it prints, turn {turn}", (status, output, lines) == (0, b"", wanted), (status, output, lines))
+        check(f"{it.what}: nothing is made", sorted(os.listdir(it.room.folder)) == before)
+        check(f"{it.what}: no writer was let through", all(writer.is_alive() for writer in writers))
+        for path, writer in zip(fifos, writers):
+            with open(os.open(path, os.O_RDONLY | os.O_NONBLOCK), "rb"):
+                writer.join(10)
+    with Failing(program, tool, "a check of what is left") as it:
+        for name, text in (("tape.setup", SETUP.encode()), ("tape", stood(GOOD) * 5), ("tape.published", b"1\n3\n")):
+            it.room.write(name, text)
+        status, _, errors = end_of(it.what, it.room.start(*it.words("/dev/null"), "--resume", "--check"))
+        check(it.what, status == 0 and f"nms_serve: tape: {it.tape}: 2 changes to cut, epoch 1 begins\n" in errors, (status, errors))
+    as_other = {"user": 65534, "group": 65534, "extra_groups": []} if os.geteuid() == 0 else {}
+    denied = "Permission denied (os error 13)"
+    for what, name, mode, said in (
+        ("a feed that can't be read", "a", 0o222, "feed A could not be opened"),
+        ("requests that can't be read", "in", 0o222, "the requests of client 1 could not be opened"),
+        ("requests that can't be written, with --keep", "in", 0o444, "the requests of client 1 could not be opened"),
+        ("answers that can't be written", "out", 0o444, "the answers to client 1 could not be opened"),
+        ("answers that can't be read, with --keep", "out", 0o222, "the answers to client 1 could not be opened"),
+    ):
+        with Failing(program, tool, f"rights: {what}") as it:
+            os.chmod(it.room.folder, 0o777)
+            for fifo in ("a", "in", "out"):
+                os.chmod(it.room.fifo(fifo), 0o666)
+            os.chmod(it.room.path(name), mode)
+            more = ["--client", f"{it.room.path('in')},{it.room.path('out')}", *(["--keep"] if "--keep" in what else [])]
+            said = f"E1: {said}: {it.room.path(name)}: {denied}"
+            it.ends(it.room.start(*it.words(it.room.path("a"), "/dev/null", *more), "--check", **as_other), 1, said)
+    with Failing(program, tool, "rights: a folder in which nothing can be made") as it:
+        os.chmod(it.room.folder, 0o555)
+        it.ends(it.room.start(*it.words("/dev/null"), "--check", **as_other), 1, f"E1: the tape could not be opened: {it.room.folder}/: {denied}")
+        it.ends(it.room.start(*it.words("/dev/null"), **as_other), 1, f"E1: the tape could not be opened: {it.tape}.setup: {denied}")
+        os.chmod(it.room.folder, 0o777)
+    for what, path, said in (
+        ("a folder for a feed", "", "E1: feed A could not be read: {}: Is a directory (os error 21)"),
+        ("a missing feed", "none", "E1: feed A could not be opened: {}: " + NO_FILE),
+    ):
+        with Failing(program, tool, f"a check: {what}") as it:
+            path = it.room.path(path) if path else it.room.folder
+            it.ends(it.room.start(*it.words(path), "--check"), 1, said.format(path))
+
+
 def unread_errors(program, tool):
-    """A standard error that nobody reads stops no feed, no client and no end."""
+    """A standard error that no process reads stops no feed, no client and no end."""
     for what, text, more, status in (("bad records", b"?\n" + GOOD, [], 6), ("silences", GOOD, ["--stale", "1"], 0), ("a fault", GOOD, ["--strict"], 6)):
         with Failing(program, tool, f"unread errors, and {what}") as it:
             reader, writer = os.pipe()
@@ -1361,8 +1320,6 @@ def kept_feeds(program, tool):
 BLOCKED = ["env", "--block-signal=TERM,INT"]
 # Sixteen desks, and a queue that a burst fills.
 MANY = SETUP.replace("desks = 2", "desks = 16")
-# A request of each kind, good and refused: all that a router may be in the middle of.
-KINDS = (b"N,0,ABC\n", b"E,3,ABC,10.0100\n", b"O,1,B,ABC,300,10.02\n", b"O,15,S,ABC,700,9.98,M\n", b"O,2,B,ABC,100,10.02,,N+Y\n", b"N,99,ABC\n", b"?\n")
 
 
 class Router(threading.Thread):
@@ -1404,125 +1361,8 @@ class Router(threading.Thread):
                 return text
 
 
-def renew(paths):
-    """Makes a client's FIFOs anew, that of its requests first."""
-    for path in paths:
-        os.mkfifo(f"{path}.new")
-    for path in paths:
-        os.rename(f"{path}.new", path)
-
-
-def dies(seed, paths, is_anew):
-    """A router that dies: it sends requests, some of them in part, reads some of its answers, and leaves at a random moment, with
-    either end first. Returns what it sent, and what it read."""
-    chance = random.Random(seed)
-    if is_anew:
-        renew(paths)
-    modes = [(paths[0], os.O_WRONLY), (paths[1], os.O_RDONLY)]
-    if chance.random() < 0.5:
-        modes.reverse()
-    ends = {mode: os.open(path, mode) for path, mode in modes}
-    asks, output = ends[os.O_WRONLY], ends[os.O_RDONLY]
-    text = b"".join(chance.choice(KINDS) for _ in range(chance.choice([1, 1, 2, 7, 40])))
-    sent = text[: chance.randrange(1, len(text) + 1)] if chance.random() < 0.7 else text
-    os.write(asks, sent)
-    got = b""
-    # A part of a request has no answer.
-    if chance.random() < 0.6 and select.select([output], [], [], 0.2)[0]:
-        got = os.read(output, chance.choice([1, 30, 300, 65536]))
-    time.sleep(chance.choice([0, 0, 0.001, 0.02]))
-    for end in chance.sample([asks, output], 2):
-        os.close(end)
-        time.sleep(chance.choice([0, 0, 0.001]))
-    return sent, got
-
-
-def whole_part(sent, got):
-    """The requests that a router had whole answers to, and these answers."""
-    lines = got.split(b"\n")
-    while lines:
-        text = b"".join(line + b"\n" for line in lines[:-1])
-        lines.pop()
-        with contextlib.suppress(ValueError, IndexError):
-            count = len(blocks(text))
-            return b"".join(line + b"\n" for line in records(sent)[:count]), text
-    return b"", b""
-
-
-def dying_routers(program, tool):
-    """With --keep a router that dies ends its own connection, and the others see no difference. One client of sixteen dies in the
-    middle of its requests, again and again; each answer of each router is the script's."""
-    for is_anew in (False, True):
-        with Failing(program, tool, f"routers that die, {'FIFOs made anew' if is_anew else 'FIFOs kept'}", MANY) as it:
-            chance, fifos = random.Random(4711 + is_anew), (it.room.fifo("a"), it.room.fifo("b"))
-            paths = [(it.room.fifo(f"in{number}"), it.room.fifo(f"out{number}")) for number in range(16)]
-            words = it.words(*fifos, "--keep")
-            for pair in paths:
-                words += ["--client", ",".join(pair)]
-            started = subprocess.Popen([*BLOCKED, program, *words], stdin=subprocess.DEVNULL, stdout=subprocess.PIPE, stderr=subprocess.PIPE)
-            heard = Heard(started)
-            check(f"{it.what}: it serves", heard.has("serving"), heard.lines)
-            is_over = threading.Event()
-            others = [Router(chance.random(), pair, steady(chance.random(), is_over), 0.004) for pair in paths[1:]]
-            feeds = [threading.Thread(target=quote, args=(path, part, is_over), daemon=True) for path, part in zip(fifos, b"NY")]
-            for feed in feeds:
-                feed.start()
-            streams, turns, left = [], 200 if is_anew else 100, r"client 1: its router has left: \d+ requests, \d+ refused"
-            has_left = lambda: sum(re.fullmatch(left, line) is not None for line in heard.lines)
-            for turn in range(1, turns + 1):
-                sent, got = dies(chance.random(), paths[0], is_anew)
-                streams.append(whole_part(sent, got))
-                # A router that takes the FIFOs of the one before comes once that one's end was found.
-                until = time.monotonic() + 20
-                while not is_anew and has_left() < turn and time.monotonic() < until:
-                    time.sleep(0.005)
-            if is_anew:
-                renew(paths[0])
-            last = Router(1, paths[0], list(KINDS))
-            last.join(20)
-            check(f"{it.what}: the next router is answered", not last.is_alive(), heard.lines[-9:])
-            streams.append((b"".join(last.lines), last.answers))
-            is_over.set()
-            for feed in feeds:
-                feed.join(20)
-            for other in others:
-                other.join(20)
-            check(f"{it.what}: the others are answered to their end", not any(other.is_alive() for other in others))
-            check(f"{it.what}: the run goes on", started.poll() is None, heard.lines[-9:])
-            started.send_signal(signal.SIGTERM)
-            heard.ends(it.what, 0)
-            check(f"{it.what}: routers that left", has_left() > turns / 4 if is_anew else has_left() == turns + 1, (has_left(), heard.lines[-9:]))
-            versions = [version for _, answers in streams for _, block in blocks(answers) if (version := version_of(block)) is not None]
-            check(f"{it.what}: the versions of its routers do not fall", len(versions) > 9 and versions == sorted(versions), versions[-30:])
-            check(f"{it.what}: the counts of the others", all(f"client {number}: ended: {len(blocks(other.answers))} requests, 0 refused" in heard.lines for number, other in enumerate(others, 2)), heard.lines[-20:])
-            streams += [(b"".join(other.lines.said), other.answers) for other in others]
-            replay(it.what, tool, it.setup, it.tape, streams)
-
-
-class steady:
-    """Good requests without an end, until the test is over; and those that were sent."""
-
-    def __init__(self, seed, is_over):
-        self.chance, self.is_over, self.said = random.Random(seed), is_over, []
-
-    def __iter__(self):
-        while not self.is_over.is_set():
-            self.said.append(self.chance.choice(KINDS[:5]))
-            yield self.said[-1]
-
-
-def quote(path, part, is_over):
-    """A feed that sends quotations until the test is over."""
-    chance = random.Random(part)
-    with open(path, "wb", buffering=0) as feed:
-        while not is_over.is_set():
-            bid = 99_000 + 100 * chance.randrange(10)
-            feed.write(b"Q,%c,ABC,A,%d.%04d,100,10.01,%d\n" % (part, bid // 10_000, bid % 10_000, chance.choice([100, 200])))
-            time.sleep(chance.random() * 0.004)
-
-
 def kept_clients(program, tool):
-    """With --keep a client's FIFOs wait for its next router; what a router left behind is nobody's."""
+    """With --keep a client's FIFOs wait for its next router; no other router gets what a router left."""
     def begun(it, *more, setup=()):
         words = it.words(it.room.fifo("a"), "/dev/null", "--keep", *more)
         for number in "12":
@@ -1690,6 +1530,238 @@ def asked_to_end(program, tool):
         heard.ends(it.what, -signal.SIGTERM)
 
 
+def state_has(path, *lines, most=60):
+    """Whether the state of a run has these lines at once, in time. Each is a pattern."""
+    end = time.monotonic() + most
+    while time.monotonic() < end:
+        with contextlib.suppress(OSError):
+            text = bytes_of(path).decode()
+            if all(re.search(f"^{line}$", text, re.M) for line in lines):
+                return True
+        time.sleep(0.02)
+    return False
+
+
+def shown_state(program, tool):
+    """--status is rewritten completely once a second, and --ready is there while the run serves."""
+    with Failing(program, tool, "the state of a run") as it:
+        status, ready, fifos = it.room.path("status"), it.room.write("ready", b"RUN,SERVING,7\n"), [it.room.fifo(name) for name in ("a", "b", "in", "out")]
+        it.room.write("status", b"RUN,ENDED,9\n")
+        words = [*it.words(*fifos[:2], "--client", ",".join(fifos[2:]), "--keep", "--status", status, "--ready", ready)]
+        started = subprocess.Popen([*BLOCKED, program, *words], stdin=subprocess.DEVNULL, stdout=subprocess.PIPE, stderr=subprocess.PIPE)
+        heard, is_over, torn = Heard(started), threading.Event(), []
+
+        def watch():
+            """Reads the state again and again; a reader never finds a part of it."""
+            while not is_over.is_set():
+                text = bytes_of(status).decode()
+                if not re.fullmatch(r"RUN,(SERVING|ENDED),\d+\n(BOARD,\d+,\d+,\d+\n(FEED,[AB],\d+,\d+,\d*,[A-Z]+\n){2}CLIENT,1,[A-Z]+,\d+,\d+\n)?", text):
+                    torn.append(text)
+                time.sleep(0.001)
+
+        watching = threading.Thread(target=watch, daemon=True)
+        watching.start()
+        check(f"{it.what}: nothing has come", state_has(status, r"RUN,SERVING,\d+", "BOARD,0,0,0", "FEED,A,0,0,,NONE", "FEED,B,0,0,,NONE", "CLIENT,1,NONE,0,0"), bytes_of(status))
+        check(f"{it.what}: it is ready", state_has(ready, "RUN,SERVING,0"))
+        with open(fifos[0], "wb", buffering=0) as feed, open(fifos[1], "wb", buffering=0):
+            feed.write(GOOD + b"?\n" + OTHER)
+            check(f"{it.what}: a feed and its writer", state_has(status, "BOARD,0,2,0", r"FEED,A,3,1,\d,WRITER", "FEED,B,0,0,,WRITER"), bytes_of(status))
+            with open(fifos[2], "wb", buffering=0) as asks, open(fifos[3], "rb", buffering=0) as answers:
+                asks.write(b"N,0,ABC\nX\n")
+                answers.read(9)
+                check(f"{it.what}: a router", state_has(status, "CLIENT,1,ROUTER,2,1"), bytes_of(status))
+            check(f"{it.what}: a router that left", state_has(status, "CLIENT,1,NONE,2,1"), bytes_of(status))
+            check(f"{it.what}: silent for some seconds", state_has(status, r"FEED,A,3,1,[2-9],WRITER"), bytes_of(status))
+        check(f"{it.what}: a writer that left", state_has(status, r"FEED,A,3,1,\d+,LEFT", "FEED,B,0,0,,LEFT"), bytes_of(status))
+        with open(fifos[1], "wb", buffering=0) as other:
+            check(f"{it.what}: a writer that has come", state_has(status, "FEED,B,0,0,,WRITER"), bytes_of(status))
+            other.write(FROM_B)
+            check(f"{it.what}: it sends", state_has(status, "BOARD,0,3,0", r"FEED,B,1,0,\d,WRITER"), bytes_of(status))
+        started.send_signal(signal.SIGTERM)
+        heard.ends(it.what, 6)
+        is_over.set()
+        watching.join(10)
+        check(f"{it.what}: its end", state_has(status, r"RUN,ENDED,\d+", "BOARD,0,3,0", r"FEED,A,3,1,\d+,ENDED", r"FEED,B,1,0,\d+,ENDED", "CLIENT,1,ENDED,2,1", most=1), bytes_of(status))
+        check(f"{it.what}: it is ready no more", not os.path.exists(ready) and not torn, torn[:2])
+        check(f"{it.what}: no more files", sorted(os.listdir(it.room.folder)) == ["a", "b", "in", "out", "setup.toml", "status", "tape", "tape.published", "tape.setup"], os.listdir(it.room.folder))
+    with Failing(program, tool, "the state of a run that ends by a fault", SHORT) as it:
+        ready, status = it.room.path("ready"), it.room.path("status")
+        started = it.room.start(*it.words(fifo := it.room.fifo("a"), "/dev/null", "--strict", "--ready", ready, "--status", status), stdin=subprocess.PIPE)
+        with open(fifo, "wb", buffering=0) as feed:
+            feed.write((GOOD + OTHER) * 8)
+            check(f"{it.what}: it is in an epoch", state_has(status, r"BOARD,[1-9],\d+,0", r"FEED,A,16,0,\d+,WRITER", "FEED,B,0,0,,ENDED"), bytes_of(status))
+            check(f"{it.what}: it is ready", os.path.exists(ready))
+            feed.write(b"?\n")
+            Heard(started).ends(it.what, 6)
+        check(f"{it.what}: it is ready no more", not os.path.exists(ready))
+        check(f"{it.what}: its end", state_has(status, r"RUN,ENDED,\d+", r"FEED,A,17,1,\d+,ENDED", most=1), bytes_of(status))
+    with Failing(program, tool, "a state that can't be written") as it:
+        os.mkdir(it.room.path("state"))
+        status = it.room.path("state/status")
+        started = it.room.start(*it.words(fifo := it.room.fifo("a"), "/dev/null", "--status", status), stdin=subprocess.PIPE)
+        heard = Heard(started)
+        with open(fifo, "wb", buffering=0) as feed:
+            check(f"{it.what}: at first it is", state_has(status, r"RUN,SERVING,\d+"))
+            for turn in (1, 2):
+                shutil.rmtree(it.room.path("state"))
+                check(f"{it.what}: that is reported", heard.has(f"a file of the run's state could not be written: {status}: {NO_FILE}", turn), heard.lines)
+                time.sleep(2.5)
+                check(f"{it.what}: it is reported once", heard.lines.count(f"a file of the run's state could not be written: {status}: {NO_FILE}") == turn, heard.lines)
+                os.mkdir(it.room.path("state"))
+                check(f"{it.what}: it is again", state_has(status, r"RUN,SERVING,\d+"))
+            feed.write(GOOD)
+            check(f"{it.what}: the run goes on", seen(started, 1))
+        started.stdin.close()
+        heard.ends(it.what, 0)
+    one, there = "usage: two paths name one file: {}: {}", "usage: there is something else than the state of a run: {}"
+    for what, words, said, paths in (
+        ("the tape", ["--status", "{}/tape"], one, ["tape", "tape"]),
+        ("a later tape", ["--status", "{}/./tape.3"], one, ["tape", "./tape.3"]),
+        ("lengths of the tape", ["--ready", "{}/tape.published"], one, ["tape", "tape.published"]),
+        ("times of the tape", ["--status", "{}/tape.1.times"], one, ["tape", "tape.1.times"]),
+        ("the setup of the tape", ["--ready", "{}/tape.setup"], one, ["tape", "tape.setup"]),
+        ("each other", ["--status", "{}/x", "--ready", "{}/./x"], one, ["x", "./x"]),
+        ("the path that another is written by", ["--status", "{}/x", "--ready", "{}/x.new"], one, ["x.new", "x.new"]),
+        ("the record", ["--status", "{}/x", "--record", "{}/x.new"], one, ["x.new", "x.new"]),
+        ("the setup", ["--status", "{}/setup.toml"], there, ["setup.toml"]),
+        ("a folder", ["--status", "{}/folder"], there, ["folder"]),
+        ("a FIFO", ["--ready", "{}/fifo"], there, ["fifo"]),
+        ("another file", ["--ready", "{}/other"], there, ["other"]),
+        ("a file whose new one is another", ["--ready", "{}/more"], there, ["more.new"]),
+        ("answers", ["--ready", "{}/out", "--client", "{}/in,{}/out"], one, ["out", "out"]),
+        ("a file in no folder", ["--status", "{}/none/x"], "E1: a file of the run could not be made: {}: " + NO_FILE, ["none/x"]),
+    ):
+        with Failing(program, tool, f"the state of a run is {what}") as it:
+            os.mkdir(it.room.path("folder"))
+            it.room.fifo("fifo")
+            for name, text in (("other", b"RUM,\n"), ("more.new", b"R,"), ("in", b""), ("out", b"")):
+                it.room.write(name, text)
+            full = [word.replace("{}", it.room.folder) for word in words]
+            it.refuses([*it.words("/dev/null"), *full], 1 if said.startswith("E1") else 2, said.format(*(it.room.path(path) for path in paths)))
+
+
+def timed_lines(program, tool):
+    """With --log-time each line on standard error begins with its time."""
+    with Failing(program, tool, "lines with their times") as it:
+        begun = time.time()
+        status, _, errors = end_of(it.what, it.room.start(*it.words(it.room.write("a", b"?\n" + GOOD), "/dev/null", "--log-time")))
+        form = re.compile(r"(\d{4}-\d\d-\d\dT\d\d:\d\d:\d\d)\.(\d{3})Z nms_serve: (.*)")
+        found = [form.fullmatch(line) for line in errors.split("\n")[:-1] if "UNPROVED" not in line]
+        check(it.what, status == 6 and len(found) == 6 and all(found), errors)
+        times = [calendar.timegm(time.strptime(each[1], "%Y-%m-%dT%H:%M:%S")) + int(each[2]) / 1000 for each in found if each]
+        check(f"{it.what}: they are now", all(begun - 0.01 <= at <= time.time() for at in times), (begun, times))
+        check(f"{it.what}: what they say", [each[3] for each in found if each and "A:1" in each[3]] == ["A:1: L1: ?"], errors)
+    with Failing(program, tool, "a fault with its time") as it:
+        _, _, errors = end_of(it.what, it.room.start(*it.words(it.room.path("none")), "--log-time"))
+        check(it.what, re.search(r"^[0-9T:.-]+Z nms_serve: E1: feed A could not be opened: ", errors, re.M) is not None, errors)
+
+
+def clock_of(line, day):
+    """The seconds since 1970 of a line of times, on the day that is nearest to a time, by UTC."""
+    at = int(line[:2]) * 3600 + int(line[2:4]) * 60 + int(line[4:6]) + int(line[6:15]) / 1e9
+    return min((day // 86400 * 86400 + at + shift for shift in (-86400, 0, 86400)), key=lambda found: abs(found - day))
+
+
+def kept_times(program, tool):
+    """--times has a line for each change of each epoch, none before an earlier one, in the zone that was named."""
+    for zone, ahead in (("+0000", 0), ("-0500", -5 * 3600), ("+0530", 19800), ("-2359", -86340)):
+        with Failing(program, tool, f"times in {zone}", SHORT) as it:
+            begun = time.time()
+            feed = it.room.write("a", (GOOD + b"?\n" + OTHER) * 70)
+            Heard(it.room.start(*it.words(feed, "/dev/null", f"--times={zone}"))).ends(it.what, 6)
+            last, all_times = begun, []
+            for epoch in range(len(read_epochs(it.tape))):
+                changes, times = bytes_of(name_of(it.tape, epoch)), bytes_of(f"{name_of(it.tape, epoch)}.times")
+                check(f"{it.what}: a line for each change of epoch {epoch}", re.fullmatch(rb"(\d{15}\n)*", times) and len(times) == 16 * changes.count(b"\n"), times[-60:])
+                all_times += [clock_of(line, begun + ahead) - ahead for line in times.split()]
+            check(f"{it.what}: they are now, and none falls", begun - 0.01 <= all_times[0] and all_times[-1] <= time.time() and all_times == sorted(all_times), all_times[::50])
+    for zone in ("", "0500", "-500", "-05000", "-2400", "-0560", "UTC", "+05:0", "−0500"):
+        with Failing(program, tool, f"times in a zone that is none: {zone}") as it:
+            it.refuses([*it.words("/dev/null"), f"--times={zone}"], 2, "usage: --times takes a sign and HHMM, as --times=-0500")
+    for name in ("tape.times", "tape.4.times"):
+        with Failing(program, tool, f"{name} that is there") as it:
+            it.refuses(it.words("/dev/null"), 2, f"usage: a file of the tape is there already: {it.room.write(name, b'')}")
+    for name in ("tape.times", "tape.1.times"):
+        with Failing(program, tool, f"a full disk for {name}", SHORT) as it:
+            os.symlink("/dev/full", it.room.path(name))
+            said = f"E2: the file of times could not be written: {it.room.path(name)}: {DISK_FULL}"
+            it.ends(it.room.start(*it.words(it.room.write("a", (GOOD + OTHER) * 20), "/dev/null", "--times=+0000")), 1, said)
+            tape = bytes_of(name_of(it.tape, int("1" in name)))
+            check(f"{it.what}: no change is on the tape without its time", tape == b"", tape)
+
+
+def kept_record(program, tool):
+    """--record has each request with its answer, before the client has it; a run that goes on appends to it."""
+    form = re.compile(rb"ASKED,(\d+),(\d+),\d{4}-\d\d-\d\dT\d\d:\d\d:\d\d\.\d{3}Z(?:,(.*))?")
+
+    def read(path):
+        """What a record has of each client: its requests, its answers, and the epochs."""
+        found = {}
+        for line in bytes_of(path).splitlines(keepends=True):
+            head = form.fullmatch(line.rstrip(b"\n"))
+            if head:
+                client = found.setdefault(int(head[1]), ([], [], []))
+                client[0].append((head[3] or b"") + b"\n")
+                client[2].append(int(head[2]))
+            else:
+                client[1].append(line)
+        return {number: (b"".join(asks), b"".join(answers), epochs) for number, (asks, answers, epochs) in found.items()}
+
+    with Failing(program, tool, "a record", SHORT) as it:
+        asks = [b"N,0,ABC\nX,1\n\"\nO,0,B,ABC,300,10.02\n" * 50, b"E,1,ABC,10\nN,1,ABC\n" * 60]
+        words = [*it.words(it.room.write("a", (GOOD + OTHER) * 30), "/dev/null"), "--record", it.room.path("record")]
+        for number, text in enumerate(asks):
+            words += ["--client", f"{it.room.write(f'in{number}', text)},{it.room.write(f'out{number}', b'')}"]
+        Heard(it.room.start(*words)).ends(it.what, 0)
+        found = read(it.room.path("record"))
+        for number, text in enumerate(asks):
+            check(f"{it.what}: the requests of client {number + 1}", found[number + 1][0] == text.replace(b'"\n', b"?\n"), found[number + 1][0][:200])
+            check(f"{it.what}: the answers to client {number + 1}", found[number + 1][1] == bytes_of(it.room.path(f"out{number}")), found[number + 1][1][:200])
+            check(f"{it.what}: the epochs of client {number + 1}", found[number + 1][2] == sorted(found[number + 1][2]), found[number + 1][2])
+        before = bytes_of(it.room.path("record"))
+        Heard(it.room.start(*words, "--resume")).ends(it.what, 0)
+        after = bytes_of(it.room.path("record"))
+        check(f"{it.what}: a run that goes on appends to it", after.startswith(before) and after.count(b"ASKED") == 2 * before.count(b"ASKED"), len(after))
+    with Failing(program, tool, "a record that is there") as it:
+        it.refuses([*it.words("/dev/null"), "--record", it.room.write("record", b"x\n")], 2, f"usage: the record is there already: {it.room.path('record')}")
+    with Failing(program, tool, "a record that is the tape") as it:
+        it.refuses([*it.words("/dev/null"), "--record", it.room.path("tape.2")], 2, f"usage: two paths name one file: {it.tape}: {it.room.path('tape.2')}")
+    with Failing(program, tool, "a full disk for the record") as it:
+        os.symlink("/dev/full", it.room.path("record"))
+        out = it.room.write("out", b"")
+        said = f"E2: the record of answers could not be written: {it.room.path('record')}: {DISK_FULL}"
+        it.ends(it.room.start(*it.words(it.room.fifo("a"), "/dev/null", "--record", it.room.path("record"), "--client", f"{it.room.write('in', b'N,0,ABC' + bytes([10]))},{out}")), 1, said)
+        check(f"{it.what}: no answer without its record", bytes_of(out) == b"", bytes_of(out))
+
+
+def synced_tapes(program, tool):
+    """--sync alters no file; if the disk fails, the run ends and no client sees what the disk did not keep."""
+    for when in ("publish", "second", "none"):
+        with Failing(program, tool, f"a run with --sync {when}", SHORT) as it:
+            feed = it.room.write("a", (GOOD + OTHER) * 30)
+            Heard(it.room.start(*it.words(feed, "/dev/null", "--sync", when))).ends(it.what, 0)
+            replay(it.what, tool, it.setup, it.tape, [])
+        with Failing(program, tool, f"--sync {when} on devices") as it:
+            for name in ("tape", "tape.published"):
+                os.symlink("/dev/null", it.room.path(name))
+            Heard(it.room.start(*it.words(it.room.write("a", GOOD), "/dev/null", "--sync", when))).ends(it.what, 0)
+    for when in ("", "always", "Publish", "second "):
+        with Failing(program, tool, f"--sync {when!r}") as it:
+            it.refuses([*it.words("/dev/null"), f"--sync={when}"], 2, "usage: --sync takes publish, second or none")
+    if shutil.which("strace") is None:
+        return
+    for when in ("publish", "second"):
+        with Failing(program, tool, f"a disk that fails, with --sync {when}") as it:
+            asks, out = it.room.write("in", b"N,0,ABC\n" * 2000), it.room.write("out", b"")
+            words = [*it.words(it.room.fifo("a"), "/dev/null"), "--sync", when, "--client", f"{asks},{out}", "--wait"]
+            hooks = ["strace", "-f", "-qq", "-o", "/dev/null", "-e", "trace=fdatasync", "-e", "inject=fdatasync:error=EIO"]
+            started = subprocess.Popen([*hooks, program, *words], stdin=subprocess.DEVNULL, stdout=subprocess.PIPE, stderr=subprocess.PIPE)
+            with open(it.room.path("a"), "wb", buffering=0) as feed:
+                feed.write(GOOD)
+                it.ends(started, 1, f"E2: the tape could not be written: {it.tape}: Input/output error (os error 5)")
+            check(f"{it.what}: no client saw it", when == "second" or bytes_of(out) == b"", bytes_of(out)[:100])
+
+
 def pushed(path, text):
     """Sends a text to a feed, as far as it is read."""
     with contextlib.suppress(BrokenPipeError), open(path, "wb", buffering=0) as feed:
@@ -1707,7 +1779,7 @@ def heard_all(started, heard):
 
 
 def is_whole(answers):
-    """Whether answers are whole."""
+    """Whether answers are complete."""
     with contextlib.suppress(ValueError, IndexError):
         blocks(answers)
         return True
@@ -1715,7 +1787,7 @@ def is_whole(answers):
 
 
 def stood(line):
-    """A change of these tests as it stands on the tape."""
+    """A change of these tests as it is on the tape."""
     return re.sub(rb"(\.\d\d),", rb"\g<1>00,", line)
 
 
@@ -1781,7 +1853,7 @@ def torn_feeds(program, tool):
 
 
 def signals(program, tool):
-    """A signal at full speed leaves whole lines; a run that is stopped goes on."""
+    """A signal at full speed leaves complete lines; a run that is stopped goes on."""
     with Failing(program, tool, "STOP and CONT") as it:
         feed = it.room.write("a", (GOOD + OTHER) * 50_000)
         started = it.room.start(*it.words(feed))
@@ -1843,9 +1915,8 @@ def main():
         runs, seed = int((sys.argv[3:] or [20])[0]), int((sys.argv[4:] or [611])[0])
         waiting = threading.Thread(target=silent_feeds, args=(program, tool))
         waiting.start()
-        for part in (shown_help, refused_words, failing_paths, closed_streams, shared_tapes, one_file, unread_errors, told_at_once, full_tape, epoch_borders, unresumed, refused_records, fixed_requests, torn_feeds, held_requests, kept_feeds, kept_clients, dying_routers, written_first, signals, asked_to_end, little_memory):
+        for part in (shown_help, refused_words, failing_paths, closed_streams, shared_tapes, one_file, only_checked, unread_errors, told_at_once, full_tape, epoch_borders, unresumed, refused_records, fixed_requests, torn_feeds, held_requests, kept_feeds, kept_clients, written_first, signals, asked_to_end, shown_state, timed_lines, kept_times, kept_record, synced_tapes, little_memory):
             part(program, tool)
-        resumed_runs(program, tool, seed)
         for number in range(runs):
             run_at_random(seed + number, program, tool)
             run_at_random(seed + 1000 + number, program, tool, is_short=True)

@@ -1,4 +1,4 @@
--- A list whose levels never fall is what stands of it on each level, level after level.
+-- A list whose levels never fall is what it has on each level, level after level.
 use Rattle.std.proofs.Common.{ℕ, ◌≡◌, ◌<◌, ◌≤◌, ◌⊎◌, inl, inr, Bool, true, false, List, [], ◌∷◌, ◌++◌, refl}
 use Rattle.std.proofs.Common.{ap, ◌∙◌, arith}
 use Rattle.std.specs.Prelude.{⊤, filter, flat_map, nat_eq}

@@ -27,7 +27,7 @@ placed_as request = record { version = request.level; line = line_of request }
 abbrev pub of : ℕ → List Request → List Request
 of client requests = filter (λ (r : Request). r.client == client) requests
 
--- a request was answered on the version that it stands after, or refused
+-- a request was answered on the version after which it comes, or refused
 abbrev pub IsGood : Settings → Tape → Request → Type 0
 IsGood settings tape request = AnswersRequest settings request.number request.fields request.look request.told
     × IfSome request.look (λ seen. seen ≡ version request.level tape)
@@ -67,7 +67,7 @@ pub record OfClients (settings : Settings) (epoch : Epoch) (place : ℕ) (client
       → (one : OfClient settings epoch at client.first 0 client.asked client.told) × (of at requests ≡ one.requests)
 
 module _ (settings : Settings) (epoch : Epoch) (rise : RiseTo 0 (length epoch.tape) epoch.lengths) where
-  -- the version that a request stands after was published, and its answer is on that version
+  -- the version after which a request comes was published, and its answer is on that version
   stands : (known : ℕ) (look : Option Tape) → IsOneOf (0 ∷ epoch.lengths) known → IfSome look (WasPublished epoch)
       → IsOneOf (0 ∷ epoch.lengths) (known_after known look) × IfSome look (λ seen. seen ≡ version (known_after known look) epoch.tape)
   stands known None one was = (one, tt)

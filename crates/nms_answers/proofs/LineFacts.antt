@@ -1,4 +1,4 @@
--- A line of the script is answered as the request that it stands for, under any number; and how the board's own lines are read.
+-- A line of the script is answered as its request, under any number; and how the board's lines are read.
 use Rattle.std.proofs.Common.{ℕ, ◌≡◌, ◌++◌, Bool, true, false, List, [], ◌∷◌, map, Option, Some, None, Result, Ok, Err, refl, ap}
 use Rattle.std.proofs.Common.{sym, subst, ◌∙◌, codes, if◌then◌else◌, length, option_map, inl, inr}
 use Rattle.std.specs.Prelude.{nat_lt, ◌&&◌}

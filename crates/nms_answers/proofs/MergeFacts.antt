@@ -52,7 +52,7 @@ module _ {Y : Type 0} (select : Request → List Y) (client : ℕ) (none : (r : 
       (of_blocks ns requests)
       ∙ sym (flat_map-append select (on level_of n (of client requests)) (blocks level_of ns (of client requests)))
 
-  -- the client's requests stand in the script in the client's own order
+  -- the client's requests are in the script in the client's order
   own_order : (settings : Settings) (epoch : Epoch) (number : ℕ) (asked : List Asked) (told : List Record) (requests : List Request)
       (one : OfClient settings epoch client number 0 asked told) → of client requests ≡ one.requests → Rise 0 epoch.lengths
       → flat_map select (blocks level_of (0 ∷ epoch.lengths) requests) ≡ flat_map select one.requests
@@ -84,7 +84,7 @@ rises : (low whole : ℕ) (ns : List ℕ) → RiseTo low whole ns → Rise low n
 rises low whole [] rise = tt
 rises low whole (n ∷ ns) rise = (rise.0, rises n whole ns rise.1)
 
--- the requests that stand after a version
+-- the requests that come after a version
 lines_on : (n : ℕ) (requests : List Request) → asked_on n (map placed_as requests) ≡ map line_of (on level_of n requests)
 lines_on n [] = refl
 lines_on n (r ∷ rs) = elim (eqb_tells r.level n) [
@@ -163,7 +163,7 @@ module _ (settings : Settings) (tape : Tape) (queue : 1 ≤ settings.queue) (lim
       (append_assoc asked (on level_of n requests) (blocks level_of ns requests))
       end
 
--- ---- the whole
+-- ---- all clients together
 
 said_answers : (settings : Settings) (number : ℕ) (said : List Said) (events : List Event) → AreSaid settings number said events
     → script.AnswersFrom settings number (map (λ (l : Line). l.fields) (map (λ (s : Said). s.line) said)) events
@@ -190,7 +190,7 @@ own_feeds settings (change ∷ tape) fits =
       own_feeds settings tape fits.1,
     )
 
--- of all changes sent, and each on the feed that it belongs to, the feeds sent those that belong to them
+-- if each of the changes sent is on the feed to which it belongs, the feeds sent those that belong to them
 abbrev pub TellFeeds : Type 0
 TellFeeds = (roster : Listing) (events : List Event) (feed : Feed) → All (IsOnOwnFeed roster) (sent_by events)
     → changes_of roster feed (changes_in (sent_by events)) ≡ fed_by feed events

@@ -34,8 +34,8 @@ use Rattle.nms_answers.specs.Merged.{Line, as_request, change_lines, own}
 use Rattle.nms_answers.specs.OneScript.{AreSaid, Said, if_of, renumbered, requests_of, told_to}
 use Rattle.nms_answers.proofs.LineFacts.{IsLookAt, answered_as, answers_change, belongs}
 
--- a client's request, with its place, its number, the length of the version that it stands after, the version that it was answered
--- on, and what was told of it
+-- a client's request, with its place, its number, the length of the version after which it comes, the version that it was
+-- answered on, and its answer
 pub record Request : Type 0 where
   pub client : ℕ
   pub number : ℕ
@@ -96,7 +96,7 @@ said-push settings number (first ∷ said) more events more_events are is = (
       (subst (λ (n : ℕ). AnswersRecord settings n more.line.fields more_events more.told) (omega arith) is),
 )
 
--- a run that answered these lines: where it stands, what it published, and whose requests were answered
+-- a run that answered these lines: its state, what it published, and whose requests were answered
 pub record IsLed (settings : Settings) (at : Standing) (lengths : List ℕ) (lines : List Line) (asked : List Request) (said : List Said)
     (events : List Event) : Type 0 where
   pub run : IsRun (room_under settings) events

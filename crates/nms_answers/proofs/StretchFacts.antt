@@ -92,7 +92,7 @@ goes_over settings number requests first epoch known looks told shown rises rest
       shows = ap (λ (l : List Record). epoch_line first epoch ++ l) rest.shows;
     }
 
--- no line stands before an answer in the same epoch
+-- no line is before an answer in the same epoch
 no_line : (first epoch : ℕ) → epoch ≡ first → epoch_line first epoch ≡ []
 no_line first epoch same = rw (eq-eqb epoch first same) refl
 

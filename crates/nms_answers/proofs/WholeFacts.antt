@@ -14,7 +14,7 @@ scripts_of : (settings : Settings) → ((epoch : Epoch) → IsServed settings ep
 scripts_of settings law [] all = tt
 scripts_of settings law (epoch ∷ epochs) all = (law epoch all.0, scripts_of settings law epochs all.1)
 
--- the script of an epoch tells a client what it was told
+-- the script of an epoch answers a client what it got
 tells_it : (settings : Settings) (epochs : List Epoch) (scripts : Scripts settings epochs) (number place : ℕ) (epoch : Epoch)
     (client : Client)
     → slice_get epochs number ≡ Some epoch → slice_get epoch.clients place ≡ Some client

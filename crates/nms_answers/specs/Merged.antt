@@ -19,11 +19,11 @@ pub record Line : Type 0 where
   pub owner : Option Owner
   pub fields : Record
 
--- a request as it stands in the script. No client may send a record of a kind that asks for no look: `?` stands for it
+-- a request as it is in the script. No client may send a record of a kind that asks for no look: `?` replaces it
 abbrev pub as_request : Record → Record
 as_request fields = if is_asked (kind_named (field fields 0)) then fields else codes "?" ∷ []
 
--- a request, and the length of the version that it stands after
+-- a request, and the length of the version after which it comes
 pub record Placed : Type 0 where
   pub version : ℕ
   pub line : Line
@@ -43,7 +43,7 @@ abbrev pub placed_of : ℕ → List Client → List Placed
 placed_of place [] = []
 placed_of place (client ∷ clients) = placed_from place client.first 0 client.asked ++ placed_of (place + 1) clients
 
--- those that stand after the version of that length, client by client
+-- those that come after the version of that length, client by client
 abbrev pub asked_on : ℕ → List Placed → List Line
 asked_on length placed = map (λ it. it.line) (filter (λ it. it.version == length) placed)
 

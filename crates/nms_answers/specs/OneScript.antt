@@ -1,4 +1,5 @@
--- What it means that an epoch is one script: the sequential machine tells each client what it was told. This product's own rule.
+-- What it means that an epoch is one script: the sequential machine gives each client the answers that it got. This product's
+-- own rule.
 use Rattle.std.specs.Prelude.{ℕ, ◌≡◌, ◌+◌, ◌==◌, List, [], ◌∷◌, ◌++◌, flat_map, map, slice_get, Option, Some, None, if◌then◌else◌}
 use Rattle.std.specs.List.{filter_map}
 use Rattle.nms_quote.specs.Merge.{changes_of}
@@ -12,12 +13,12 @@ use Rattle.nms_scripts.specs.Script.{AnswersRecord, IsScriptAnswer, is_refusal}
 use Rattle.nms_answers.specs.ServedEpoch.{Client, Epoch}
 use Rattle.nms_answers.specs.Merged.{Line, Owner, as_request, script_of}
 
--- a line, and what the script is told of it
+-- a line, and the script's answer to it
 pub record Said : Type 0 where
   pub line : Line
   pub told : List Record
 
--- the lines in order, numbered from the given number on: each is answered as a script's record, and what is told is its answer
+-- the lines in order, numbered from the given number on: each is answered as a script's record
 unfoldable pub AreSaid : Settings → ℕ → List Said → List Event → Type 0
 AreSaid settings number [] events = events ≡ []
 AreSaid settings number (said ∷ more) events =
@@ -37,11 +38,11 @@ if_of client (Some owner) make = if owner.client == client then make owner.numbe
 abbrev pub requests_of : ℕ → List Line → List Record
 requests_of client lines = flat_map (λ line. if_of client line.owner (λ number. line.fields ∷ [])) lines
 
--- the answers to them, in order, as the client is told them
+-- the answers to them, in order, as the client gets them
 abbrev pub told_to : ℕ → List Said → List Record
 told_to client said = flat_map (λ it. if_of client it.line.owner (λ number. map (renumbered number) it.told)) said
 
--- the machine of scripts, given the one script, tells each client what the client was told
+-- the machine of scripts, given the one script, gives each client the answers that the client got
 pub record IsOneScript (settings : Settings) (epoch : Epoch) : Type 0 where
   pub said : List Said
   pub events : List Event
@@ -54,7 +55,7 @@ pub record IsOneScript (settings : Settings) (epoch : Epoch) : Type 0 where
   pub feeds : (feed : Feed) → fed_by feed events ≡ changes_of settings.roster feed epoch.tape
   pub tape : tape_at (standing_after events) ≡ epoch.tape
   pub published : filter_map (λ event. version_published event.1) events ≡ epoch.lengths
-  -- it has each client's requests in the client's own order, and its answers to them are all that the client was told
+  -- it has each client's requests in the client's order, and its answers to them are all that the client got
   pub asked : (place : ℕ) (client : Client) → slice_get epoch.clients place ≡ Some client
       → requests_of place (script_of settings.roster epoch) ≡ map (λ asked. as_request asked.fields) client.asked
   pub told : (place : ℕ) (client : Client) → slice_get epoch.clients place ≡ Some client → told_to place said ≡ client.told

@@ -11,7 +11,7 @@ use Rattle.nms_answers.specs.declared.epoch_desk.EpochDesk.{EpochDesk}
 use Rattle.nms_answers.specs.declared.request_stream.Progress.{Progress}
 use Rattle.nms_answers.specs.declared.request_stream.Progress.TheVariants as progress
 
--- n requests were read and answered, m of them refused, and the reader stands after them
+-- n requests were read and answered, m of them refused, and the reader is after them
 pub record HasCome {R : Type 0} (remaining : R → Option (List ℕ)) (settings : Settings) (bytes : Option (List ℕ)) (reader : Reader R)
     (first now : EpochDesk) (before after : Option (List ℕ)) (done refused : ℕ) : Type 0 where
   pub requests : List Record

@@ -1,4 +1,4 @@
--- An epoch of a served run: its tape, when it was published, and what its clients asked and were told. This product's own rule.
+-- An epoch of a served run: its tape, when it was published, and what its clients asked and got. This product's own rule.
 use Rattle.std.specs.Prelude.{ℕ, ⊤, ◌≡◌, ◌<◌, ◌≤◌, All, Contains, IfSome, List, [], ◌∷◌, length, map, Option, Some, None}
 use Rattle.std.specs.List.{AllByRecursion}
 use Rattle.nms_quote.specs.Tape.{Tape, version}
@@ -12,7 +12,7 @@ pub record Asked : Type 0 where
   pub fields : Record
   pub look : Option Tape
 
--- a client in an epoch: the number of its first request there, its requests in order, and all that it was told of them
+-- a client in an epoch: the number of its first request there, its requests in order, and all answers to them
 pub record Client : Type 0 where
   pub first : ℕ
   pub asked : List Asked
@@ -24,7 +24,7 @@ pub record Epoch : Type 0 where
   pub lengths : List ℕ
   pub clients : List Client
 
--- the lengths rise from the first number to the last one, which is the whole length
+-- the lengths rise from the first number to the last one, which is the complete length
 abbrev pub RiseTo : ℕ → ℕ → List ℕ → Type 0
 RiseTo low whole [] = low ≡ whole
 RiseTo low whole (length ∷ lengths) = (low < length) × RiseTo length whole lengths
@@ -50,7 +50,7 @@ pub record IsClient (settings : Settings) (epoch : Epoch) (client : Client) : Ty
   pub published : AllByRecursion (λ asked. IfSome asked.look (WasPublished epoch)) client.asked
   pub rising : NeverFall 0 client.asked
 
--- what is known of an epoch: its changes are the roster's, they are within the setup's limit, and the whole tape was published
+-- what is known of an epoch: its changes are the roster's, they are within the setup's limit, and all of the tape was published
 pub record IsServed (settings : Settings) (epoch : Epoch) : Type 0 where
   pub fits : All (FitsRecord settings.roster) epoch.tape
   pub limit : length epoch.tape ≤ settings.tape_limit

@@ -56,7 +56,7 @@ some_said = record { line = of 1 2 (best (codes "1") (codes "XYZ")); told = refu
     ∷ record { line = own halt; told = [] }
     ∷ record { line = of 0 2 (best (codes "0") (codes "ABC")); told = (codes "BEST" ∷ []) ∷ [] } ∷ []
 
--- what a client was told in an epoch: one record
+-- what a client got in an epoch: one record
 abbrev pub stretch : ℕ → Record → Stretch
 stretch number told = record { epoch = number; client = record { first = 1; asked = []; told = told ∷ [] } }
 

@@ -8,7 +8,7 @@ use Rattle.nms_answers.specs.Streams.{AnswersFrom, ServesFrom}
 use Rattle.nms_answers.specs.declared.epoch_desk.EpochDesk.{EpochDesk}
 use Rattle.nms_answers.specs.ServedEpoch.{Asked, Client, NeverFall}
 
--- what a client asked and was told in one epoch
+-- what a client asked and got in one epoch
 pub record Stretch : Type 0 where
   pub epoch : ℕ
   pub client : Client
@@ -17,11 +17,11 @@ pub record Stretch : Type 0 where
 abbrev pub asked_in : List Stretch → List Asked
 asked_in stretches = flat_map (λ stretch. stretch.client.asked) stretches
 
--- all that it was told
+-- all answers that it got
 abbrev pub told_in : List Stretch → List Record
 told_in stretches = flat_map (λ stretch. stretch.client.told) stretches
 
--- what it was shown: the line of each epoch that it goes over to, and what it was told there
+-- what it was shown: the line of each epoch that it goes over to, and the answers there
 abbrev pub shown_in : ℕ → List Stretch → List Record
 shown_in epoch [] = []
 shown_in epoch (stretch ∷ more) = epoch_line epoch stretch.epoch ++ (stretch.client.told ++ shown_in stretch.epoch more)

@@ -1,4 +1,4 @@
-//! One request of a known kind, answered on what a desk sees (specs/Told).
+//! Answering one request of a known kind on what a desk sees (specs/Told).
 ghost use Rattle.std.specs.Prelude.{◌≡◌, ◌<◌, ◌++◌, length, All, IfErr, IfOk, OnErr, OnOk};
 ghost use Rattle.nms_quote.specs.Roster.{sizes_of};
 ghost use Rattle.nms_quote.specs.Tape.{Tape};
@@ -22,10 +22,10 @@ use nms_units::Price;
 use nms_versions::Desk;
 use std::alloc::AllocError;
 
-/// `N`: looks, and appends the best bid and the best offer of what the desk saw (17 CFR 242.600). `number` is the
-/// desk's number as the record names it.
+/// `N`: looks, and appends the best bid and the best offer that the desk saw (17 CFR 242.600). `number` is the desk's number as
+/// the record names it.
 ///
-/// `NoReading` leaves the desk and the text as they were; `NoMemory` may leave a part of the answer appended.
+/// `NoReading` leaves the desk and the text as they were. `NoMemory` may leave a part of the answer appended.
 pub fn answer_best(
     desk: &mut Desk,
     setup: &Setup,
@@ -55,8 +55,8 @@ pub fn answer_best(
     }
 }
 
-/// `E`: looks, and appends the protected quotations that a trade at the price trades through (17 CFR 242.611), of what
-/// the desk saw. `price` in 1/10,000 dollar. `NoReading` and `NoMemory` as in `answer_best`.
+/// `E`: looks, and appends the protected quotations that the desk saw and that a trade at the price trades through (17 CFR
+/// 242.611). `price` is in 1/10,000 dollar. `NoReading` and `NoMemory` as in `answer_best`.
 pub fn answer_through(
     desk: &mut Desk,
     setup: &Setup,
@@ -77,7 +77,7 @@ pub fn answer_through(
     }
 }
 
-/// Appends the protected quotations that a trade at the price trades through, of what a desk saw.
+/// Appends the protected quotations that a desk saw and that a trade at the price trades through.
 fn tell_through(
     out: &mut Vec<u8>,
     roster: &Roster,

@@ -1,7 +1,8 @@
-//! A client's desk of one epoch, and what gives it the desks of later ones (specs/Epochs).
+//! A client's desk of one epoch, and the source of its desks of later ones (specs/Epochs).
 ghost use Rattle.std.specs.Prelude.{◌≡◌, ◌<◌, IfSome};
 ghost use Rattle.nms_quote.specs.Roster.{Sizes};
 
+use nms_lines::ByteRecord;
 use nms_versions::Desk;
 
 /// A client's desk of one epoch of a run. An epoch is one tape with its board; epochs are counted from 0.
@@ -13,7 +14,8 @@ pub struct EpochDesk {
     pub desk: Desk,
 }
 
-/// The source of a client's desks of later epochs. It is told of each answer, so that a run can count them while it goes on.
+/// The source of a client's desks of later epochs. It learns of each answer, so that a run can record and count them while it
+/// goes on.
 pub trait LaterDesks {
     // The sizes of the roster, which all epochs of a run have.
     ghost sizes: { Sizes };
@@ -23,6 +25,9 @@ pub trait LaterDesks {
         ensures later { IfSome result (λ next. epoch < next.epoch) }
         ensures sizes { IfSome result (λ next. next.desk.sizes ≡ sizes) };
 
-    /// An answer was written; `refused` if it is an `ERR` record.
+    /// Called before an answer is written, with its text, the request that it answers, and the epoch in which it does.
+    fn take_down(&self, epoch: u64, request: &ByteRecord, answer: &[u8]);
+
+    /// Called after an answer was written; `refused` if it is an `ERR` record.
     fn note_answer(&self, refused: bool);
 }

@@ -1,4 +1,4 @@
-//! One request, answered in the latest epoch (specs/Epochs).
+//! Answering one request in the latest epoch (specs/Epochs).
 ghost use Rattle.std.specs.Prelude.{◌≡◌, ◌<◌, ◌++◌, ◌∷◌, [], true, false, IfOk, OnOk};
 ghost use Rattle.csv.specs.Records.{fields_of};
 ghost use Rattle.nms_quote.specs.Roster.{sizes_of};
@@ -13,8 +13,9 @@ use nms_fees::Setup;
 use nms_lines::{ByteRecord, end_record, push_number};
 use std::alloc::AllocError;
 
-/// Answers the request of this number, from 1, as `answer_request` does, in the latest epoch. The text is the answer alone,
-/// after `EPOCH,k` if the client went over to epoch k for it. A desk whose epoch ends meanwhile goes over as well.
+/// Answers the request with this number, counted from 1, as `answer_request` does, in the latest epoch. The text is only the
+/// answer, or `EPOCH,k` and the answer if the client went over to epoch k for it. A desk whose epoch ends meanwhile goes over
+/// as well.
 ///
 /// `NoReading` if the desk had no reading and there was no later epoch; `NoMemory` as in `answer_request`.
 pub fn answer_latest<L: LaterDesks>(
@@ -63,7 +64,7 @@ fn go_over<L: LaterDesks>(desk: &mut EpochDesk, later: &L) -> bool
     }
 }
 
-/// Answers the request in the desk's epoch. The epoch's line comes first if the client stood in another.
+/// Answers the request in the desk's epoch. The epoch's line comes first if the client was in another.
 fn answer_here(
     desk: &mut EpochDesk,
     setup: &Setup,

@@ -1,4 +1,4 @@
-//! A client's requests, answered on what its desk sees: each answer is the script's, on one published version.
+//! Answers to a client's requests on what its desk sees. Each answer is the script's, on one published version.
 #![tactic(auto)]
 
 mod answer_fault;

@@ -1,4 +1,4 @@
-//! One request, answered or refused (specs/Requests).
+//! Answering or refusing one request (specs/Requests).
 ghost use Rattle.std.specs.Prelude.{◌≡◌, ◌++◌, ◌∷◌, [], true, IfOk, OnOk};
 ghost use Rattle.csv.specs.Records.{fields_of};
 ghost use Rattle.nms_quote.specs.Roster.{sizes_of};
@@ -16,11 +16,11 @@ use nms_lines::{ByteRecord, Kind, Line, LineFault, Reading, field_at, kind_named
 use nms_text::tell_refusal;
 use nms_versions::Desk;
 
-/// Answers the request of this number, from 1: an `N`, `E` or `O` record of a script, for any desk of the setup, on what the
-/// desk sees now. The answer is the script's on that version, appended to the text. Any other record is refused by `ERR`, its
-/// number and the code. Returns whether it was refused.
+/// Answers the request with this number, counted from 1. It is an `N`, `E` or `O` record of a script, for any desk of the
+/// setup, on what the desk sees now. The answer is the script's on that version, appended to the text. Any other record is
+/// refused by `ERR`, its number and the code. Returns whether it was refused.
 ///
-/// `NoReading` leaves the text as it was; `NoMemory` may leave a part of the answer appended.
+/// `NoReading` leaves the text as it was. `NoMemory` may leave a part of the answer appended.
 pub fn answer_request(
     desk: &mut Desk,
     setup: &Setup,
@@ -44,7 +44,7 @@ pub fn answer_request(
     }
 }
 
-/// What a request says: an `N`, `E` or `O` record of a script. A client may send no record of another kind.
+/// The line of a request: an `N`, `E` or `O` record of a script. A client may send no record of another kind.
 fn read_request(row: &ByteRecord, setup: &Setup) -> Result<Line, LineFault>
     ensures said { result ≡ request_reading setup.now (fields_of row.now) }
     ensures look { IfOk result (λ line. is_look line ≡ true) }
@@ -97,7 +97,7 @@ fn answer_line(
     }
 }
 
-/// Appends the refusal of the request of that number.
+/// Appends the refusal of the request with that number.
 fn refuse(number: u64, fault: LineFault, out: &mut Vec<u8>) -> Result<(), AnswerFault>
     ensures { OnOk result (out.new.items ≡ out.old.items ++ text_of (refusal number (line_faults.code_of fault) ∷ [])) }
 {

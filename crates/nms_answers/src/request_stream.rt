@@ -1,4 +1,4 @@
-//! All requests of a client's stream, answered in order (specs/Streams).
+//! Answering all requests of a client's stream in order (specs/Streams).
 ghost use Rattle.std.specs.Prelude.{◌≡◌, ◌≢◌, ◌≤◌, ℕ, ◌+◌, List, [], Option, option_map, IfErr, IfOk};
 ghost use Rattle.nms_quote.specs.Roster.{sizes_of};
 ghost use Rattle.nms_lines.specs.Records.{ReadsFrom};
@@ -24,19 +24,19 @@ use std::io::{Read, Write};
 /// The outcome of one more request.
 #[derive(Clone, Copy)]
 pub enum Progress {
-    /// It was answered; `refused` by an `ERR` record.
+    /// The request was answered; `refused` by an `ERR` record.
     Answered { refused: bool },
-    /// There was none.
+    /// There was no further request.
     Ended,
 }
 
 /// Answers the requests of a client's stream, one after another, each on what the desk sees then, in the latest epoch. If the
-/// client goes over to epoch k, `EPOCH,k` comes before the answer. Only whole lines are read (`WholeLines`). Each answer is one
-/// write, flushed before the next request is read. A refused request is answered by `ERR`, its number and the code. `Ok` is the
-/// end of the stream.
+/// client goes over to epoch k, `EPOCH,k` comes before the answer. Only complete lines are read (`WholeLines`). Each answer is
+/// one write, flushed before the next request is read. A refused request is answered by `ERR`, its number and the code. `Ok` is
+/// the end of the stream.
 ///
-/// `ReadFault`, `TooLong`, `NoMemory` and `NoReading` leave the answers to the requests before, whole; `WriteFault`
-/// leaves a prefix of one more.
+/// After `ReadFault`, `TooLong`, `NoMemory` or `NoReading` the answers to the requests before were written completely. After
+/// `WriteFault` a prefix of one more was written.
 pub fn answer_stream<R: Read + Drop, W: Write, L: LaterDesks>(
     alloc: Global,
     setup: &Setup,
@@ -59,7 +59,7 @@ pub fn answer_stream<R: Read + Drop, W: Write, L: LaterDesks>(
     answer_records(alloc, setup, desk, later, &mut reader, answers)
 }
 
-/// Answers the requests that a reader gives, from the first on.
+/// Answers the requests that a reader gives, from the first one.
 fn answer_records<R: Read, W: Write, L: LaterDesks>(
     alloc: Global,
     setup: &Setup,
@@ -130,6 +130,7 @@ fn advance<R: Read, W: Write, L: LaterDesks>(
         Ok(refused) => refused,
         Err(fault) => return Err(fault),
     };
+    later.take_down(desk.epoch, row, text);
     match tell(answers, text) {
         Ok(()) => {
             later.note_answer(refused);

@@ -138,7 +138,7 @@ joined : (before : List Client) (client : Client) (rest : Option (List Client))
 joined before client None = refl
 joined before client (Some after) = ap (λ (clients : List Client). Some clients) (sym (append_assoc before (client ∷ []) after))
 
--- the client at i stands before those after it
+-- the client at i is before those after it
 next_from : (before : List Client) (values : List (Bor Text)) (i : ℕ) (d : Bor Text) (client : Client) → i < length values
     → Some client ≡ client_of (get_or values i d).now
     → option_map (λ after. before ++ after) (clients_of (texts (drop i values)))
@@ -149,7 +149,7 @@ next_from before values i d client within some =
     ∙ ap (option_and_then (λ (one : Client). option_map (λ clients. one ∷ clients) rest)) (sym some))
     ∙ joined before client rest
 
--- the client at i is read: it stands after the clients so far
+-- the client at i is read: it is after the clients so far
 pub one_read : (values : List (Bor Text)) (i : ℕ) (d : Bor Text) (clients more : List ClientPaths) (client : ClientPaths)
     → i < length values
     → clients_of (texts values) ≡ option_map (λ rest. map shown_client clients ++ rest) (clients_of (texts (drop i values)))

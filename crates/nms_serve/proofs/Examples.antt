@@ -47,6 +47,13 @@ given : given_by (codes "--feed" ∷ codes "A=a" ∷ codes "--tape" ∷ codes "t
   wait = true;
   stale = None;
   resume = false;
+  check = false;
+  status = None;
+  ready = None;
+  log_time = false;
+  times = None;
+  recorded = None;
+  sync = None;
 }
 unfolding clap_on_literals
 given = refl

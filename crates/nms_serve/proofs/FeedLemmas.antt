@@ -16,7 +16,7 @@ use Rattle.nms_serve.proofs.Lists.{any_map, each_more, twice_more}
 abbrev pub texts : List (Bor Text) → List Text
 texts = map (λ value. value.now)
 
--- values stand round the one at i
+-- values are around the one at i
 pub split_at : (values : List (Bor Text)) (i : ℕ) (d : Bor Text) → i < length values
     → texts values ≡ texts (take i values) ++ (get_or values i d).now ∷ texts (drop (i + 1) values)
 split_at values i d within =
@@ -66,7 +66,7 @@ no_form values i d feeds within read once none = (
   none,
 )
 
--- the value at i has a letter that stands before it
+-- the value at i has a letter that is there before it
 pub stands_twice : (values : List (Bor Text)) (i : ℕ) (d : Bor Text) (feeds : List Feed) (feed : Feed) → i < length values
     → each_of feed_of (texts (take i values)) ≡ Some feeds → has_twice is_same_feed feeds ≡ false
     → feed_of (get_or values i d).now ≡ Some feed → list_any (λ f. is_same_feed f feed) feeds ≡ true
@@ -99,7 +99,7 @@ one_read values i d feeds more feed within read is all = ap (each_of feed_of) (t
     ∙ one_more (texts (take i values)) (map shown_feed feeds) (get_or values i d).now (shown_feed feed) read is
     ∙ ap (λ (fs : List Feed). Some fs) (shown_more feeds more feed all)
 
--- a feed with a letter of its own
+-- a feed with another letter
 pub once_more : (feeds more : List FeedPath) (feed : FeedPath) → has_twice is_same_feed (map shown_feed feeds) ≡ false
     → list_any (λ f. f.place == feed.place) feeds ≡ false → more ≡ feeds ++ feed ∷ []
     → has_twice is_same_feed (map shown_feed more) ≡ false

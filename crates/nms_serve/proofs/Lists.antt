@@ -1,4 +1,4 @@
--- Values read one after the other, and elements that stand twice.
+-- Values read one after the other, and elements that are there twice.
 use Rattle.std.proofs.Common.{◌≡◌, ◌∙◌, ◌||◌, ◌++◌, Bool, true, false, List, [], ◌∷◌, Option, Some, None}
 use Rattle.std.proofs.Common.{map, option_map, option_and_then, refl, ap}
 use Rattle.std.proofs.lemmas.List.Folds.{list_any-append}
@@ -26,7 +26,7 @@ each_more {X} read (first ∷ rest) value =
     go (Some x) (Some xs) None = refl
     go (Some x) (Some xs) (Some y) = refl
 
--- one more element stands twice if it stands among those before it
+-- one more element is there twice if it is among those before it
 pub twice_more : {X : Type 0} (same : X → X → Bool) (xs : List X) (x : X)
     → has_twice same (xs ++ x ∷ []) ≡ (has_twice same xs || list_any (λ y. same y x) xs)
 twice_more same [] x = refl

@@ -30,12 +30,12 @@ among words error fault.ClientForm has memory is = elim is [ ]
 among words error fault.PathTwice has memory is = elim is [ ]
 among words error fault.StaleForm has memory is = elim is [ ]
 
--- the words are those without fault
+-- the arguments are those without fault
 pub faultless : (app : App) (words : List Text) → app ≡ serve → (is_simple_and_free app ≡ true → fault_of app words ≡ [])
     → faults_in words ≡ []
 faultless app words command kinds = ap (λ (a : App). fault_of a words) (sym command) ∙ kinds (ap is_simple_and_free command ∙ exact)
 
--- a fault of what the words give, if the parser finds none in them
+-- a fault of what the arguments give, if the parser finds none in them
 pub given_fault : (words : List Text) (why : WordsFault) → faults_in words ≡ [] → IsFaultOf (given_by words) why → IsRefusal words why
 given_fault words (fault.Parser text help) none is = elim is [ ]
 given_fault words fault.NoMemory none is = tt

@@ -35,7 +35,7 @@ each_append {X} read (value ∷ rest) others =
     go (Some x) (Some xs) None = refl
     go (Some x) (Some xs) (Some ys) = refl
 
--- what stands twice does so with others after it
+-- an element that is there twice still is with others after it
 still_twice : {X : Type 0} (same : X → X → Bool) (xs ys : List X) → has_twice same xs ≡ true → has_twice same (xs ++ ys) ≡ true
 still_twice same [] ys twice = cc
 still_twice same (x ∷ xs) ys twice =
@@ -76,7 +76,7 @@ none_at_fault values value all some first =
 
 -- ---- right words
 
--- right words are refused for memory alone
+-- right arguments are refused only if out of memory
 pub only_memory : (words : List Text) (asked : Asked) (why : WordsFault) → faults_in words ≡ [] → IsAsked (given_by words) asked
     → IsRefusal words why → why ≡ fault.NoMemory
 only_memory words asked fault.NoMemory none is refused = refl
@@ -113,6 +113,13 @@ one_asked given asked other is too =
       wait = (is.wait ∙ sym too.wait) i;
       stale = stale i;
       resume = (is.resume ∙ sym too.resume) i;
+      check = (is.check ∙ sym too.check) i;
+      status = (is.status ∙ sym too.status) i;
+      ready = (is.ready ∙ sym too.ready) i;
+      log_time = (is.log_time ∙ sym too.log_time) i;
+      times = (is.times ∙ sym too.times) i;
+      recorded = (is.recorded ∙ sym too.recorded) i;
+      sync = (is.sync ∙ sym too.sync) i;
     }
 
 -- so they are answered by that, or memory is out

@@ -1,4 +1,4 @@
--- What the words of the command line ask for, or why they are refused. This product's own rule.
+-- What the arguments of the command line ask for, or why they are refused. This product's own rule.
 use Rattle.std.specs.Prelude.{ℕ, ◌≡◌, Bool, true, false, List, [], ◌∷◌, map, fold, codes, unwrap_or}
 use Rattle.std.specs.Prelude.{Option, Some, None, is_some, option_map}
 use Rattle.std.specs.Option.{option_map_or}
@@ -30,15 +30,15 @@ flag_rule name = record (new_rule name) { long = Some name; action = Some SetTru
 abbrev pub setup_rule : Rule
 setup_rule = valued_rule (codes "setup")
 
--- it may stand several times, and stands at least once
+-- it may be given several times, and is given at least once
 abbrev pub feed_rule : Rule
 feed_rule = record (valued_rule (codes "feed")) { action = Some Append; required = true }
 
--- it may stand several times
+-- it may be given several times
 abbrev pub client_rule : Rule
 client_rule = record (valued_rule (codes "client")) { action = Some Append }
 
--- it has to stand
+-- it has to be given
 abbrev pub tape_rule : Rule
 tape_rule = record (valued_rule (codes "tape")) { required = true }
 
@@ -57,7 +57,28 @@ stale_rule = valued_rule (codes "stale")
 abbrev pub resume_rule : Rule
 resume_rule = flag_rule (codes "resume")
 
--- the words are those after the program's name, no words at all are refused with the help, and there is a version to print
+abbrev pub check_rule : Rule
+check_rule = flag_rule (codes "check")
+
+abbrev pub status_rule : Rule
+status_rule = valued_rule (codes "status")
+
+abbrev pub ready_rule : Rule
+ready_rule = valued_rule (codes "ready")
+
+abbrev pub log_time_rule : Rule
+log_time_rule = flag_rule (codes "log-time")
+
+abbrev pub times_rule : Rule
+times_rule = valued_rule (codes "times")
+
+abbrev pub record_rule : Rule
+record_rule = valued_rule (codes "record")
+
+abbrev pub sync_rule : Rule
+sync_rule = valued_rule (codes "sync")
+
+-- the arguments are those after the program's name, no words at all are refused with the help, and there is a version to print
 abbrev pub without_options : App
 without_options = on_top (λ top. record top { no_binary_name = true; arg_required_else_help = true; has_version = true })
     (new_app (codes "nms_serve"))
@@ -66,9 +87,13 @@ without_options = on_top (λ top. record top { no_binary_name = true; arg_requir
 abbrev pub with_files : App
 with_files = fold with_rule without_options (setup_rule ∷ feed_rule ∷ client_rule ∷ tape_rule ∷ [])
 
--- the whole command line
+-- with those of how it goes on
+abbrev pub with_ways : App
+with_ways = fold with_rule with_files (strict_rule ∷ keep_rule ∷ wait_rule ∷ stale_rule ∷ resume_rule ∷ check_rule ∷ [])
+
+-- the complete command line
 abbrev pub serve : App
-serve = fold with_rule with_files (strict_rule ∷ keep_rule ∷ wait_rule ∷ stale_rule ∷ resume_rule ∷ [])
+serve = fold with_rule with_ways (status_rule ∷ ready_rule ∷ log_time_rule ∷ times_rule ∷ record_rule ∷ sync_rule ∷ [])
 
 -- ---- what the matches hold
 
@@ -83,6 +108,13 @@ pub record Given : Type 0 where
   pub wait : Bool
   pub stale : Option Text
   pub resume : Bool
+  pub check : Bool
+  pub status : Option Text
+  pub ready : Option Text
+  pub log_time : Bool
+  pub times : Option Text
+  pub recorded : Option Text
+  pub sync : Option Text
 
 -- whether the matches hold the flag: the parser gives it the value `true` or `false`
 abbrev pub is_flagged : List Row → Text → Bool
@@ -100,9 +132,16 @@ given_in rows = record {
   wait = is_flagged rows (codes "wait");
   stale = first_of (codes "stale") rows;
   resume = is_flagged rows (codes "resume");
+  check = is_flagged rows (codes "check");
+  status = first_of (codes "status") rows;
+  ready = first_of (codes "ready") rows;
+  log_time = is_flagged rows (codes "log-time");
+  times = first_of (codes "times") rows;
+  recorded = first_of (codes "record") rows;
+  sync = first_of (codes "sync") rows;
 }
 
--- what the words give, by the matches that the parser makes of them
+-- what the arguments give, by the matches that the parser makes of them
 abbrev pub given_by : List Text → Given
 given_by words = given_in (matches_of serve words)
 
@@ -118,6 +157,13 @@ pub record Asked : Type 0 where
   pub wait : Bool
   pub stale : Option ℕ
   pub resume : Bool
+  pub check : Bool
+  pub status : Option Text
+  pub ready : Option Text
+  pub log_time : Bool
+  pub times : Option Text
+  pub recorded : Option Text
+  pub sync : Option Text
 
 -- what is given asks for that
 pub record IsAsked (given : Given) (asked : Asked) : Type 0 where
@@ -131,6 +177,13 @@ pub record IsAsked (given : Given) (asked : Asked) : Type 0 where
   pub wait : asked.wait ≡ given.wait
   pub stale : stale_of given.stale ≡ Some asked.stale
   pub resume : asked.resume ≡ given.resume
+  pub check : asked.check ≡ given.check
+  pub status : asked.status ≡ given.status
+  pub ready : asked.ready ≡ given.ready
+  pub log_time : asked.log_time ≡ given.log_time
+  pub times : asked.times ≡ given.times
+  pub recorded : asked.recorded ≡ given.recorded
+  pub sync : asked.sync ≡ given.sync
 
 abbrev pub shown_feed : FeedPath → Feed
 shown_feed feed = record { place = feed.place; path = string_bytes feed.path }
@@ -150,15 +203,22 @@ shown request = record {
   wait = request.wait;
   stale = request.stale;
   resume = request.resume;
+  check = request.check;
+  status = option_map string_bytes request.status;
+  ready = option_map string_bytes request.ready;
+  log_time = request.log_time;
+  times = option_map string_bytes request.times;
+  recorded = option_map string_bytes request.recorded;
+  sync = option_map string_bytes request.sync;
 }
 
 -- ---- words that are no request
 
--- the kinds of fault that the parser finds in the words, among which it answers one; none if it takes them
+-- the kinds of fault that the parser finds in the arguments, among which it answers one; none if it takes them
 abbrev pub faults_in : List Text → Kinds
 faults_in = fault_of serve
 
--- the words ask for help, or for the version
+-- the arguments ask for help, or for the version
 abbrev pub asks_for_help : ErrorKind → Bool
 asks_for_help DisplayHelp = true
 asks_for_help DisplayVersion = true
@@ -200,7 +260,7 @@ IsParserFault kinds (Parser text help) = (kind : ErrorKind) × IsAmong kind kind
 IsParserFault kinds NoMemory = Unit {0}
 IsParserFault kinds _ = ⊥
 
--- why the words are no request: a fault that the parser finds; or, if it finds none, the fault of what they give; or out of memory
+-- why the arguments are no request: a fault that the parser finds; or, if it finds none, the fault of what they give; or out of memory
 abbrev pub IsRefusal : List Text → WordsFault → Type 0
 IsRefusal words (Parser text help) = IsParserFault (faults_in words) (Parser text help)
 IsRefusal words NoMemory = Unit {0}

@@ -12,7 +12,7 @@ abbrev pub each_of : {X : Type 0} → (Text → Option X) → List Text → Opti
 each_of read [] = Some []
 each_of read (value ∷ rest) = option_and_then (λ x. option_map (λ xs. x ∷ xs) (each_of read rest)) (read value)
 
--- whether one stands twice
+-- whether one is there twice
 abbrev pub has_twice : {X : Type 0} → (X → X → Bool) → List X → Bool
 has_twice same [] = false
 has_twice same (x ∷ rest) = list_any (same x) rest || has_twice same rest
@@ -46,15 +46,15 @@ feed_of _ = None
 abbrev pub is_same_feed : Feed → Feed → Bool
 is_same_feed one other = one.place == other.place
 
--- the feeds, if no letter stands twice
+-- the feeds, if no letter is there twice
 abbrev pub apart : List Feed → Option (List Feed)
 apart feeds = if has_twice is_same_feed feeds then None else Some feeds
 
--- the feeds of the values, in order: each value is one, and no letter stands twice
+-- the feeds of the values, in order: each value is one, and no letter is there twice
 abbrev pub feeds_of : List Text → Option (List Feed)
 feeds_of values = option_and_then apart (each_of feed_of values)
 
--- the values are feeds up to that one, which is none or has a letter that stands before it
+-- the values are feeds up to that one, which is none or has a letter that is there before it
 pub record IsFirstAtFault (values : List Text) (value : Text) : Type 0 where
   pub before : List Text
   pub after : List Text

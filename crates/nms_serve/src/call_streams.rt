@@ -1,4 +1,5 @@
-//! The files that the words of a call name: each is there, and no two words name one file.
+//! The files that the arguments of a call name. Each is there, and no two arguments name one file.
+use crate::own_files::OwnFiles;
 use crate::program_fault::ProgramFault;
 use crate::refusal::Refusal;
 use crate::tape_folder::TapeFile;
@@ -67,12 +68,13 @@ impl<'a> Places<'a> {
     }
 }
 
-/// Looks up the files that a call names: each feed's and each client's has to be there, and no two words may name one file.
-/// Nor may a word name one of the tape's files that are there.
+/// Looks up the files that a call names. Each feed's and each client's has to be there, and no two arguments may name one file.
+/// Also no argument may name one of the tape's files, or a file that the run makes, if it is there.
 pub(crate) fn check_streams(
     host: &HostRuntime,
     alloc: Global,
     request: &Request,
+    own: &OwnFiles<'_>,
     tape: &[TapeFile],
 ) -> Result<(), Refusal> {
     let mut places = Places {
@@ -86,6 +88,9 @@ pub(crate) fn check_streams(
     add_clients(host, &mut places, &request.clients)?;
     for file in tape {
         places.add_if_there(host, file.path.as_str())?;
+    }
+    for spot in &own.found {
+        places.add_if_there(host, spot.path)?;
     }
     Ok(())
 }

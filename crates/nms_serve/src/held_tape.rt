@@ -1,4 +1,4 @@
-//! The tape of a run, held by its lock: new, or as an earlier run has left it.
+//! The tape of a run, held by its lock. It is new, or as an earlier run has left it.
 ghost use Rattle.std.specs.Prelude.{◌≡◌, IfOk, None};
 ghost use Rattle.nms_quote.specs.Roster.{sizes_of};
 ghost use Rattle.nms_serve.specs.LeftRuns.{HasNext, IsOfRoster};
@@ -6,54 +6,64 @@ ghost use Rattle.nms_serve.specs.LeftRuns.{HasNext, IsOfRoster};
 use crate::call_streams::check_streams;
 use crate::left_epoch::{LeftTape, refused};
 use crate::left_run::LeftRun;
+use crate::own_files::OwnFiles;
 use crate::refusal::Refusal;
 use crate::tape_fault::TapeFault;
 use crate::tape_folder::{Part, SETUP, TapeFile, files_of_tape, refuse_files};
 use crate::tape_setup::{check_setup, hold_left, hold_new, write_setup};
 use crate::words::Request;
 use nms_fees::Setup;
+use std::alloc::Global;
 use std::fs::File;
 
 /// The tape of a run.
 #[derive(Drop)]
 pub(crate) struct HeldTape {
-    /// The file of its setup. Its lock is held for as long as this is open.
-    setup: File,
+    /// The file of its setup. Its lock is held while this is open.
+    pub(crate) setup: File,
     /// What an earlier run has left, if this one goes on with it. Else there is no file of an epoch.
     pub(crate) left: Option<LeftRun>,
 }
 
-/// Holds the tape that a request names. A new one has no files, and is given that of its setup. With `--resume` the files of an
-/// earlier run are read. A refusal alters nothing of them.
-pub(crate) fn hold_tape(
+/// The tape that a request names, as it is found. Nothing of it is altered or made.
+#[derive(Drop)]
+pub(crate) struct FoundTape {
+    /// The file of its setup, locked, if there is one.
+    pub(crate) setup: Option<File>,
+    /// What an earlier run has left, if this one goes on with it.
+    pub(crate) left: Option<LeftRun>,
+}
+
+/// Finds the tape that a request names. A new one has no files. If `--resume` is given, the files of an earlier run are read.
+pub(crate) fn find_tape(
     host: &HostRuntime,
     text: &[u8],
     setup: &Setup,
     request: &Request,
-) -> Result<HeldTape, Refusal>
+    own: &OwnFiles<'_>,
+) -> Result<FoundTape, Refusal>
     ensures sizes { IfOk result (λ tape. IsOfRoster (sizes_of setup.now.roster) tape.left) }
     ensures next { IfOk result (λ tape. HasNext tape.left) }
 {
     let (alloc, path) = (host.alloc(), request.tape.as_str());
-    let Ok(name) = format!(in alloc; "{path}{SETUP}") else {
-        return Err(Refusal::no_memory());
-    };
-    let own = SetupFile {
-        host,
-        text,
-        path: name.as_str(),
-    };
     if !request.resume {
         let files = files_of_tape(host, alloc, path)?;
         refuse_files(host, &files)?;
-        check_streams(host, alloc, request, &files)?;
-        return own.new_tape(None);
+        check_streams(host, alloc, request, own, &files)?;
+        return Ok(FoundTape {
+            setup: None,
+            left: None,
+        });
     }
+    let name = setup_path(alloc, path)?;
     let held = hold_left(host, name.as_str())?;
     let files = files_of_tape(host, alloc, path)?;
-    check_streams(host, alloc, request, &files)?;
+    check_streams(host, alloc, request, own, &files)?;
     if !has_epoch(&files) {
-        return own.new_tape(held);
+        return Ok(FoundTape {
+            setup: held,
+            left: None,
+        });
     }
     let tape = LeftTape {
         host,
@@ -61,50 +71,46 @@ pub(crate) fn hold_tape(
         setup,
         path,
     };
-    own.left_tape(held, &tape, &files)
+    let Some(mut file) = held else {
+        return Err(refused(TapeFault::NoSetup, name.as_str()));
+    };
+    check_setup(&mut file, alloc, text, name.as_str())?;
+    let left = tape.left_run(&files)?;
+    Ok(FoundTape {
+        setup: Some(file),
+        left,
+    })
 }
 
-/// The file of a setup, and the text that it has to have.
-#[derive(Clone, Copy)]
-struct SetupFile<'a> {
-    host: &'a HostRuntime,
-    text: &'a [u8],
-    path: &'a str,
-}
-
-impl SetupFile<'_> {
-    /// A tape with no epoch. An earlier run may have made the file of its setup, and no more.
-    fn new_tape(&self, held: Option<File>) -> Result<HeldTape, Refusal>
-        ensures sizes { IfOk result (λ tape. tape.left ≡ None) }
-    {
-        let mut setup = match held {
-            Some(file) => file,
-            None => hold_new(self.host, self.path)?,
-        };
-        write_setup(&mut setup, self.text, self.path)?;
-        Ok(HeldTape { setup, left: None })
+/// Holds a tape that was found, and returns the file of its setup. A new tape is given one.
+pub(crate) fn hold_setup(
+    host: &HostRuntime,
+    text: &[u8],
+    request: &Request,
+    found: Option<File>,
+    is_left: bool,
+) -> Result<File, Refusal> {
+    let name = setup_path(host.alloc(), request.tape.as_str())?;
+    let mut setup = match found {
+        Some(file) => file,
+        None => hold_new(host, name.as_str())?,
+    };
+    // The text is written here too if the file was there, because an earlier run may have made only this file.
+    if !is_left {
+        write_setup(&mut setup, text, name.as_str())?;
     }
+    Ok(setup)
+}
 
-    /// A tape that an earlier run has left.
-    fn left_tape(
-        &self,
-        held: Option<File>,
-        tape: &LeftTape<'_>,
-        files: &[TapeFile],
-    ) -> Result<HeldTape, Refusal>
-        ensures sizes { IfOk result (λ held. IsOfRoster (sizes_of tape.now.setup.now.roster) held.left) }
-        ensures next { IfOk result (λ held. HasNext held.left) }
-    {
-        let Some(mut setup) = held else {
-            return Err(refused(TapeFault::NoSetup, self.path));
-        };
-        check_setup(&mut setup, tape.alloc, self.text, self.path)?;
-        let left = tape.left_run(files)?;
-        Ok(HeldTape { setup, left })
+/// The path of the file of a tape's setup.
+fn setup_path(alloc: Global, path: &str) -> Result<String, Refusal> {
+    match format!(in alloc; "{path}{SETUP}") {
+        Ok(name) => Ok(name),
+        Err(_) => Err(Refusal::no_memory()),
     }
 }
 
-/// Whether one of the files is of an epoch.
+/// Whether any of the files belongs to an epoch.
 fn has_epoch(files: &[TapeFile]) -> bool {
     files.iter().any(|file| file.part != Part::Setup)
 }

@@ -1,17 +1,20 @@
-//! What an earlier run has left of one epoch: the two files are read, and cut.
+//! The two files that an earlier run has left of one epoch, and how they are read and cut.
 ghost use Rattle.std.specs.Prelude.{◌≡◌, IfOk};
 ghost use Rattle.nms_quote.specs.Roster.{sizes_of};
 
 use crate::program_fault::ProgramFault;
 use crate::refusal::Refusal;
 use crate::tape_fault::TapeFault;
-use crate::tape_folder::PUBLISHED;
+use crate::tape_folder::TIMES;
 use nms_fees::Setup;
-use nms_serving::{LeftBoard, ResumeFault, ServeFault, Stream, left_board};
+use nms_serving::{LeftBoard, ResumeFault, ServeFault, Stream, epoch_paths, left_board};
 use std::alloc::{AllocError, Global};
 use std::fs::OpenOptions;
 use std::io::ErrorKind;
 use std::{fs, io};
+
+/// How many bytes a line of times has.
+const TIME_LINE: u64 = 16;
 
 /// A tape of an earlier run, and the setup under which it is read.
 #[derive(Clone, Copy)]
@@ -25,9 +28,11 @@ pub(crate) struct LeftTape<'a> {
 /// What is left of an epoch.
 #[derive(Drop)]
 pub(crate) struct LeftEpoch {
-    /// The paths of its two files.
+    /// The path of its tape, and that of its lengths.
     pub(crate) tape: String,
     pub(crate) lengths: String,
+    /// The path of its times. There may be no such file.
+    pub(crate) times: String,
     pub(crate) left: LeftBoard,
 }
 
@@ -39,6 +44,9 @@ impl LeftTape<'_> {
         let Ok((tape, lengths)) = self.paths_of(epoch) else {
             return Err(Refusal::no_memory());
         };
+        let Ok(times) = format!(in self.alloc; "{tape}{TIMES}") else {
+            return Err(Refusal::no_memory());
+        };
         let text = self.read(Stream::Tape, tape.as_str(), false)?;
         let may_lack = may_lack && text.is_empty();
         let listed = self.read(Stream::Lengths, lengths.as_str(), may_lack)?;
@@ -46,6 +54,7 @@ impl LeftTape<'_> {
             Ok(left) => Ok(LeftEpoch {
                 tape,
                 lengths,
+                times,
                 left,
             }),
             Err(fault) => Err(refused_left(fault, tape.as_str(), lengths.as_str())),
@@ -54,17 +63,7 @@ impl LeftTape<'_> {
 
     /// The paths of an epoch's tape and of its lengths.
     fn paths_of(&self, epoch: u64) -> Result<(String, String), AllocError> {
-        let path = self.path;
-        if epoch == 0 {
-            return Ok((
-                String::from_str(self.alloc, path)?,
-                format!(in self.alloc; "{path}{PUBLISHED}")?,
-            ));
-        }
-        Ok((
-            format!(in self.alloc; "{path}.{epoch}")?,
-            format!(in self.alloc; "{path}.{epoch}{PUBLISHED}")?,
-        ))
+        epoch_paths(self.alloc, self.path, epoch)
     }
 
     /// Refuses an epoch one of whose files is missing or no file.
@@ -85,7 +84,7 @@ impl LeftTape<'_> {
         }
     }
 
-    /// The bytes of a file; none of one that may be missing and is.
+    /// The bytes of a file; none if it is missing and may be.
     fn read(&self, stream: Stream, path: &str, may_lack: bool) -> Result<Vec<u8>, Refusal> {
         match fs::metadata(self.host, path) {
             Ok(found) if found.is_file() => {}
@@ -105,8 +104,17 @@ impl LeftTape<'_> {
 }
 
 impl LeftEpoch {
-    /// Cuts the files after what was published. What is cut was shown to nobody.
+    /// Cuts the files after what was published. No one saw what is cut. There may be no times, or fewer.
     pub(crate) fn cut(&self, host: &HostRuntime) -> Result<(), Refusal> {
+        if fs::metadata(host, self.times.as_str()).is_ok() {
+            let end = (self.left.published as u64).checked_mul(TIME_LINE);
+            cut_file(
+                host,
+                Stream::Times,
+                self.times.as_str(),
+                end.unwrap_or(u64::MAX),
+            )?;
+        }
         cut_file(
             host,
             Stream::Tape,
@@ -121,10 +129,11 @@ impl LeftEpoch {
         )
     }
 
-    /// Removes the files of an epoch of which nothing was published. Wherever it ends, the next run does the same once more: a
-    /// tape without its lengths is empty.
+    /// Removes the files of an epoch of which nothing was published. If it ends early, the next run does the same again,
+    /// because a tape without its lengths counts as empty.
     pub(crate) fn remove(&self, host: &HostRuntime) -> Result<(), Refusal> {
         cut_file(host, Stream::Tape, self.tape.as_str(), 0)?;
+        remove_file(host, Stream::Times, self.times.as_str())?;
         remove_file(host, Stream::Lengths, self.lengths.as_str())?;
         remove_file(host, Stream::Tape, self.tape.as_str())
     }
@@ -174,7 +183,7 @@ fn remove_file(host: &HostRuntime, stream: Stream, path: &str) -> Result<(), Ref
 }
 
 /// The refusal of a file that can't be changed.
-fn unwritten(stream: Stream, path: &str, error: &io::Error) -> Refusal {
+pub(crate) fn unwritten(stream: Stream, path: &str, error: &io::Error) -> Refusal {
     let fault = ProgramFault::Serving(ServeFault::NotWritten(stream));
     Refusal::at(fault, path).and(error)
 }

@@ -1,4 +1,4 @@
-//! What an earlier run has left of its tape, and the epoch in which this run goes on.
+//! The tape that an earlier run has left, and the epoch in which this run goes on.
 ghost use Rattle.std.specs.Prelude.{IfOk, Some};
 ghost use Rattle.nms_quote.specs.Roster.{sizes_of};
 ghost use Rattle.nms_serve.specs.LeftRuns.{HasNext, IsOfRoster};
@@ -15,8 +15,8 @@ use nms_serving::{MOST_EPOCHS, ServeFault, Text};
 pub(crate) struct LeftRun {
     /// The last epoch of which something was published, if there is one.
     pub(crate) from: Option<LeftEpoch>,
-    /// The epoch after it, if its files were made. Nothing of it was published.
-    begun: Option<LeftEpoch>,
+    /// The epoch after that, if its files were made. Nothing of it was published.
+    pub(crate) begun: Option<LeftEpoch>,
     /// The epoch in which this run goes on.
     pub(crate) epoch: u64,
 }
@@ -36,7 +36,7 @@ impl LeftTape<'_> {
         Ok(Some(self.left_of(last)?))
     }
 
-    /// What is left by a run whose last epoch was this.
+    /// What a run with this last epoch has left.
     fn left_of(&self, last: u64) -> Result<LeftRun, Refusal>
         ensures sizes { IfOk result (λ left. IsOfRoster (sizes_of self.now.setup.now.roster) (Some left)) }
         ensures next { IfOk result (λ left. HasNext (Some left)) }
@@ -101,9 +101,29 @@ impl LeftRun {
             (None, None) => Text::of("resumed"),
         }
     }
+
+    /// The text in which `--check` reports what was left.
+    pub(crate) fn finding(&self) -> Text {
+        match (&self.from, &self.begun) {
+            (Some(from), _) => found_in(from)
+                .with(", epoch ")
+                .with(self.epoch)
+                .with(" begins"),
+            (None, Some(begun)) => found_in(begun).with(", epoch 0 begins again"),
+            (None, None) => Text::of("tape"),
+        }
+    }
 }
 
-/// The begin of a report: the epoch's tape, and how many of its changes are cut.
+/// The beginning of a finding: the epoch's tape, and how many of its changes would be cut.
+fn found_in(epoch: &LeftEpoch) -> Text {
+    Text::of("tape")
+        .and_shown(epoch.tape.as_bytes())
+        .and(epoch.left.cut)
+        .with(" changes to cut")
+}
+
+/// The beginning of a report: the epoch's tape, and how many of its changes are cut.
 fn resumed(epoch: &LeftEpoch) -> Text {
     Text::of("resumed ")
         .with_shown(epoch.tape.as_bytes())
@@ -123,7 +143,7 @@ fn last_epoch(files: &[TapeFile]) -> Result<Option<u64>, Refusal> {
     Ok(last)
 }
 
-/// The later of two epochs, if there are two.
+/// The later of two epochs, or the only one.
 fn later(last: Option<u64>, epoch: u64) -> u64 {
     match last {
         Some(last) if last > epoch => last,

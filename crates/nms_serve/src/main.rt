@@ -1,13 +1,17 @@
-//! The serving program: a board that runs beside routers, on the process's own words, files and streams.
+//! The serving program: a board that runs next to routers. It uses the arguments, files and streams of the process.
 #![tactic(auto)]
 
 mod call_streams;
+mod checking;
+mod choices;
 mod held_tape;
 mod left_epoch;
 mod left_run;
 mod opening;
+mod own_files;
 mod program_fault;
 mod refusal;
+mod rights;
 mod running;
 mod setting_up;
 mod tape_fault;
@@ -36,7 +40,7 @@ fn main(rt: HostRuntime) -> ExitCode {
     }
 }
 
-/// Serves the process's own words, and gives the exit status.
+/// Serves the arguments of the process, and gives the exit status.
 fn answer_words<R: Threads + Wait + Sync + Copy + Send + 'static>(
     rt: &R,
     host: &HostRuntime,
@@ -51,7 +55,7 @@ fn answer_words<R: Threads + Wait + Sync + Copy + Send + 'static>(
     }
 }
 
-/// Serves these words, and gives the exit status.
+/// Serves the given arguments, and gives the exit status.
 fn answer<R: Threads + Wait + Sync + Copy + Send + 'static>(
     rt: &R,
     host: &HostRuntime,
@@ -67,7 +71,7 @@ fn answer<R: Threads + Wait + Sync + Copy + Send + 'static>(
     }
 }
 
-/// The words after the program's name. A word that is not UTF-8 names nothing.
+/// The arguments after the program's name. An argument that is not UTF-8 names nothing.
 fn own_words(host: &HostRuntime) -> Result<Vec<String>, ProgramFault> {
     let all = env::args(host).map_err(|error| match error.kind() {
         ErrorKind::OutOfMemory => ProgramFault::Words(WordsFault::NoMemory),
@@ -82,7 +86,7 @@ fn own_words(host: &HostRuntime) -> Result<Vec<String>, ProgramFault> {
     Ok(words)
 }
 
-/// Words as they are lent; `None` if out of memory.
+/// The arguments as borrowed texts; `None` if out of memory.
 fn words_of<'a>(alloc: Global, own: &'a [String]) -> Option<Vec<&'a str>> {
     let mut words = Vec::new(alloc);
     for word in own {

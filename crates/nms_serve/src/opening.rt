@@ -1,8 +1,12 @@
-//! The service of a request: its files are opened, the board is opened, and the run is made.
+//! Serving a request: its files and the board are opened, and the run is made.
+ghost use Rattle.std.specs.Prelude.{◌≡◌, IfOk, IfSome};
 ghost use Rattle.nms_quote.specs.Roster.{sizes_of};
 ghost use Rattle.nms_serve.specs.LeftRuns.{HasNext, IsOfRoster};
 
-use crate::held_tape::{HeldTape, hold_tape};
+use crate::checking::Check;
+use crate::choices::{Choices, SyncAt};
+use crate::held_tape::{FoundTape, HeldTape, find_tape, hold_setup};
+use crate::own_files::{NewPaths, OwnFiles};
 use crate::program_fault::ProgramFault;
 use crate::refusal::Refusal;
 use crate::setting_up::{setup_in, setup_text_of};
@@ -11,12 +15,16 @@ use crate::telling::TapeNotice;
 use crate::words::{ClientPaths, FeedPath, Request};
 use nms_fees::Setup;
 use nms_serving::{
-    ClientStreams, Door, Doors, GoingOn, Means, REFUSED_STATUS, Run, ServeFault, Served, Teller,
-    Text, Ways, has_room_for_epochs, least_tape_limit, resume, serve,
+    Beside, ClientStreams, Door, Doors, GoingOn, Means, Named, REFUSED_STATUS, Record, Run,
+    ServeFault, Served, Signs, Stream, TapeDisk, Teller, Text, Ways, has_room_for_epochs,
+    least_tape_limit, resume, serve,
 };
 use std::alloc::{AllocError, Global};
+use std::fs::{File, OpenOptions};
+use std::io::{Read, Seek, SeekFrom, Write};
 use std::sync::Wait;
 use std::thread::Threads;
+use std::{fs, io};
 
 /// Serves a request. Its exit status and the line of its fault, if any, go to the teller.
 pub(crate) fn serve_request<R: Threads + Wait + Sync>(
@@ -34,8 +42,8 @@ pub(crate) fn serve_request<R: Threads + Wait + Sync>(
     }
 }
 
-/// Serves a request under its setup, and gives the exit status: that of the fault that ended the run, 6 if a record of a feed was
-/// refused, or 0. It fails if no run begins.
+/// Serves a request under its setup, and gives the exit status. That is the status of the fault that ended the run, 6 if a
+/// record of a feed was refused, or 0. It fails if no run begins. If `--check` is given, no run begins.
 fn answer_request<R: Threads + Wait + Sync>(
     rt: &R,
     host: &HostRuntime,
@@ -45,26 +53,177 @@ fn answer_request<R: Threads + Wait + Sync>(
     let text = setup_text_of(host, request)?;
     let setup = setup_in(host.alloc(), &text)?;
     check_request(&setup, request)?;
-    let alloc = host.alloc();
+    let choices = Choices::of(request)?;
+    let Ok(news) = NewPaths::of(host.alloc(), request) else {
+        return Err(Refusal::no_memory());
+    };
+    answer_call(
+        rt,
+        host,
+        teller,
+        &call_of(request, &text, &setup, &news, choices),
+    )
+}
+
+/// A request with the things that it names.
+#[derive(Clone, Copy)]
+struct Call<'a> {
+    request: &'a Request,
+    /// The text of its setup, and the setup.
+    text: &'a [u8],
+    setup: &'a Setup,
+    signs: Signs<'a>,
+    choices: Choices,
+}
+
+/// A request with the things that it names, all borrowed for one lifetime.
+fn call_of<'a>(
+    request: &'a Request,
+    text: &'a [u8],
+    setup: &'a Setup,
+    news: &'a NewPaths,
+    choices: Choices,
+) -> Call<'a>
+    ensures setup { result.setup.now ≡ setup.now }
+{
+    Call {
+        request,
+        text,
+        setup,
+        signs: news.signs(request),
+        choices,
+    }
+}
+
+/// As `answer_request`.
+fn answer_call<R: Threads + Wait + Sync>(
+    rt: &R,
+    host: &HostRuntime,
+    teller: &Teller,
+    call: &Call<'_>,
+) -> Result<u8, Refusal> {
+    let (alloc, request) = (host.alloc(), call.request);
     let (Ok(feeds), Ok(clients)) = (
-        doors_of(alloc, setup.feeds(), &request.feeds),
+        doors_of(alloc, call.setup.feeds(), &request.feeds),
         streams_of(alloc, &request.clients),
     ) else {
         return Err(Refusal::no_memory());
     };
-    let tape = hold_tape(host, &text, &setup, request)?;
-    let run = Run::new(&setup, ways_of(request), teller);
+    let Some(tape) = take_tape(rt, host, teller, call)? else {
+        return Ok(0);
+    };
+    let record = open_record(host, request)?;
+    let run = Run::new(call.setup, ways_of(request), teller);
     let means = Means {
         rt,
         host,
         alloc,
         run: &run,
     };
+    let own = Own {
+        signs: call.signs,
+        disk: disk_of(call),
+        recording: record_of(request, record.as_ref()),
+    };
     let doors = Doors {
         feeds: &feeds,
         clients: &clients,
+        beside: &own,
     };
-    serve_streams(&means, &doors, request.tape.as_str(), &tape)
+    serve_streams(&means, &doors, call, &tape)
+}
+
+/// Takes the tape of a call. If `--check` is given, it only looks at the tape and reports what was found, and returns none.
+fn take_tape<R: Wait>(
+    rt: &R,
+    host: &HostRuntime,
+    teller: &Teller,
+    call: &Call<'_>,
+) -> Result<Option<HeldTape>, Refusal>
+    ensures sizes { IfOk result (λ tape. IfSome tape (λ held. IsOfRoster (sizes_of call.now.setup.now.roster) held.left)) }
+    ensures next { IfOk result (λ tape. IfSome tape (λ held. HasNext held.left)) }
+{
+    let own = own_files(host, call.request, &call.signs)?;
+    let found = find_tape(host, call.text, call.setup, call.request, &own)?;
+    if call.request.check {
+        let check = Check::new(rt, host, teller)?;
+        check.report(call.setup, call.request, &own, found.left.as_ref())?;
+        return Ok(None);
+    }
+    let FoundTape { setup, left } = found;
+    let setup = hold_setup(host, call.text, call.request, setup, left.is_some())?;
+    // A file that an earlier run has left would claim that this run serves already.
+    if let Some(ready) = &call.signs.ready {
+        ready.remove(host);
+    }
+    Ok(Some(HeldTape { setup, left }))
+}
+
+/// The files that a request makes next to its tape.
+fn own_files<'a>(
+    host: &'a HostRuntime,
+    request: &'a Request,
+    signs: &Signs<'a>,
+) -> Result<OwnFiles<'a>, Refusal> {
+    let mut own = OwnFiles::of(host, host.alloc(), request.tape.as_str())?;
+    own.add_sign(signs.status)?;
+    own.add_sign(signs.ready)?;
+    if let Some(record) = &request.recorded {
+        own.add_record(record.as_str(), request.resume)?;
+    }
+    Ok(own)
+}
+
+/// Opens the file of the record, if a record is asked for. A new file is made exclusively.
+fn open_record(host: &HostRuntime, request: &Request) -> Result<Option<File>, Refusal> {
+    let Some(path) = &request.recorded else {
+        return Ok(None);
+    };
+    let is_there = fs::metadata(host, path.as_str()).is_ok();
+    match OpenOptions::new()
+        .append(true)
+        .create_new(!is_there)
+        .open(host, path.as_str())
+    {
+        Ok(file) => match end_cut_line(host, path.as_str(), &file) {
+            Ok(()) => Ok(Some(file)),
+            Err(error) => Err(Refusal::of_stream(Stream::Record, path.as_str(), &error)),
+        },
+        Err(error) => Err(Refusal::of_stream(Stream::Record, path.as_str(), &error)),
+    }
+}
+
+/// Ends the last line of a record whose writing was cut off, so that the next request begins a line.
+fn end_cut_line(host: &HostRuntime, path: &str, mut file: &File) -> io::Result<()> {
+    let found = file.metadata()?;
+    let Some(last) = found.len().checked_sub(1) else {
+        return Ok(());
+    };
+    if !found.is_file() {
+        return Ok(());
+    }
+    let mut kept = File::open(host, path)?;
+    kept.seek(SeekFrom::Start(last))?;
+    let mut end = [0; 1];
+    kept.read_exact(&mut end)?;
+    if end[0] == b'\n' {
+        Ok(())
+    } else {
+        file.write_all(b"\n")
+    }
+}
+
+/// The record with its name.
+fn record_of<'a>(request: &'a Request, file: Option<&'a File>) -> Option<Record<'a>> {
+    let (Some(path), Some(file)) = (&request.recorded, file) else {
+        return None;
+    };
+    let named = Named {
+        stream: Stream::Record,
+        path: path.as_str(),
+        epoch: 0,
+    };
+    Some(Record { file, named })
 }
 
 /// Refuses a request that its setup does not allow.
@@ -81,6 +240,37 @@ fn check_request(setup: &Setup, request: &Request) -> Result<(), Refusal> {
     Ok(())
 }
 
+/// What a call asks for next to its streams.
+#[derive(Clone, Copy)]
+struct Own<'a> {
+    signs: Signs<'a>,
+    disk: Option<TapeDisk<'a>>,
+    recording: Option<Record<'a>>,
+}
+
+impl Beside for Own<'_> {
+    fn signs(&self) -> Signs<'_> {
+        self.signs
+    }
+
+    fn disk(&self) -> Option<TapeDisk<'_>> {
+        self.disk
+    }
+
+    fn recording(&self) -> Option<Record<'_>> {
+        self.recording
+    }
+}
+
+/// The disk of a call's tape, if it is waited for once a second.
+fn disk_of<'a>(call: &Call<'a>) -> Option<TapeDisk<'a>> {
+    let path = call.request.tape.as_str();
+    match call.choices.sync {
+        SyncAt::Second => Some(TapeDisk { path }),
+        SyncAt::Publish | SyncAt::None => None,
+    }
+}
+
 /// How a request goes on.
 fn ways_of(request: &Request) -> Ways {
     Ways {
@@ -94,8 +284,8 @@ fn ways_of(request: &Request) -> Ways {
 /// Opens the files, serves the streams, and reports the end of the tape.
 fn serve_streams<R: Threads + Wait + Sync>(
     means: &Means<'_, R>,
-    doors: &Doors<'_>,
-    path: &str,
+    doors: &Doors<'_, Own<'_>>,
+    call: &Call<'_>,
     tape: &HeldTape,
 ) -> Result<u8, Refusal>
     requires sizes { IsOfRoster (sizes_of means.now.run.now.setup.now.roster) tape.now.left }
@@ -105,7 +295,8 @@ fn serve_streams<R: Threads + Wait + Sync>(
         host: means.host,
         alloc: means.alloc,
         run: means.run,
-        path,
+        path: call.request.tape.as_str(),
+        choices: call.choices,
     };
     let served = serve_tape(means, doors, &paths, tape)?;
     means
@@ -121,7 +312,7 @@ fn serve_streams<R: Threads + Wait + Sync>(
 /// Serves the streams on a new tape, or goes on with what an earlier run has left of it.
 fn serve_tape<R: Threads + Wait + Sync>(
     means: &Means<'_, R>,
-    doors: &Doors<'_>,
+    doors: &Doors<'_, Own<'_>>,
     paths: &TapePaths<'_>,
     tape: &HeldTape,
 ) -> Result<Served, Refusal>
@@ -144,7 +335,7 @@ fn serve_tape<R: Threads + Wait + Sync>(
     or_refused(serve(means, doors, tape, lengths, paths))
 }
 
-/// What a run gave, if it began.
+/// The result of a run, if it began.
 fn or_refused(served: Result<Served, ServeFault>) -> Result<Served, Refusal> {
     match served {
         Ok(served) => Ok(served),
@@ -161,7 +352,7 @@ fn status_of(served: &Served) -> u8 {
     }
 }
 
-/// Whether the feeds are exactly those of the setup. No two are the same.
+/// Whether the feeds are exactly those of the setup. Two of them are never the same.
 fn are_all_feeds(setup: &Setup, feeds: &[FeedPath]) -> bool {
     feeds.len() == usize::from(setup.feeds()) && feeds.iter().all(|feed| feed.place < setup.feeds())
 }

@@ -9,11 +9,11 @@ use thiserror::Error;
 /// Why the program ends with a status other than 0 and 6.
 #[derive(Debug, Drop, Error)]
 pub(crate) enum ProgramFault {
-    /// The words are no request.
+    /// The arguments are no request.
     Words(WordsFault),
-    /// A word is not UTF-8.
+    /// An argument is not UTF-8.
     NoText,
-    /// A standard stream is closed, and nothing could stand in for it.
+    /// A standard stream is closed, and nothing could replace it.
     NoNull,
     /// The paths are not those of the setup's feeds.
     WrongFeeds,
@@ -25,11 +25,21 @@ pub(crate) enum ProgramFault {
     Setup(SetupFault),
     /// There is a file of the tape.
     TapeThere,
-    /// The tape is held by another run, or can't be gone on with.
+    /// The tape is held by another run, or a run can't go on with it.
     Tape(TapeFault),
     /// Two paths of the call name one file.
     OneFile,
-    /// The tape of the setup has no room for epochs. The least `tape_limit` that has it.
+    /// A file of the run's state, or of its record, can't be made.
+    NoFile,
+    /// There is something else at the path of a file of the run's state.
+    NoState,
+    /// The value of `--times` is no zone.
+    ZoneForm,
+    /// The value of `--sync` is none of the three words.
+    SyncForm,
+    /// There is a record already.
+    RecordThere,
+    /// The tape of the setup has no room for epochs. The number is the least `tape_limit` that has.
     ShortTape(u64),
     /// A thread of the process could not be started.
     NoThread,
@@ -47,8 +57,12 @@ impl ProgramFault {
             | ProgramFault::MoreClients
             | ProgramFault::TapeThere
             | ProgramFault::Tape(_)
-            | ProgramFault::OneFile => 2,
-            ProgramFault::NoSetup | ProgramFault::NoNull => 1,
+            | ProgramFault::OneFile
+            | ProgramFault::NoState
+            | ProgramFault::ZoneForm
+            | ProgramFault::SyncForm
+            | ProgramFault::RecordThere => 2,
+            ProgramFault::NoSetup | ProgramFault::NoNull | ProgramFault::NoFile => 1,
             ProgramFault::ShortTape(_) => 3,
             ProgramFault::NoThread => ServeFault::NotBegun.status(),
             ProgramFault::Setup(fault) => fault.status(),
@@ -74,6 +88,15 @@ impl fmt::Display for ProgramFault {
             ProgramFault::TapeThere => f.write_str("usage: a file of the tape is there already"),
             ProgramFault::Tape(fault) => fmt::Display::fmt(fault, f),
             ProgramFault::OneFile => f.write_str("usage: two paths name one file"),
+            ProgramFault::NoFile => f.write_str("E1: a file of the run could not be made"),
+            ProgramFault::NoState => f.write_str(
+                "usage: there is something else than the state of a run",
+            ),
+            ProgramFault::ZoneForm => f.write_str(
+                "usage: --times takes a sign and HHMM, as --times=-0500",
+            ),
+            ProgramFault::SyncForm => f.write_str("usage: --sync takes publish, second or none"),
+            ProgramFault::RecordThere => f.write_str("usage: the record is there already"),
             ProgramFault::ShortTape(least) => write!(
                 f,
                 "E6: tape_limit has to be {least} at least: twice the most opening changes, 2 a participant and 1, for each symbol"

@@ -11,7 +11,7 @@ pub(crate) struct Refusal {
 }
 
 impl Refusal {
-    /// Of a fault.
+    /// The refusal for a fault.
     pub(crate) fn of(fault: ProgramFault) -> Self {
         Refusal {
             status: fault.status(),
@@ -19,18 +19,23 @@ impl Refusal {
         }
     }
 
-    /// Of a fault at a path.
+    /// The refusal for a fault at a path.
     pub(crate) fn at(fault: ProgramFault, path: &str) -> Self {
         Refusal::of(fault).with_path(path)
     }
 
-    /// Of a stream that could not be opened.
+    /// The refusal for a stream that could not be opened.
     pub(crate) fn of_stream(stream: Stream, path: &str, error: &io::Error) -> Self {
         let fault = ProgramFault::Serving(ServeFault::NotOpened(stream));
         Refusal::at(fault, path).and(error)
     }
 
-    /// With a reason.
+    /// The refusal for a file that the run should make, but can't.
+    pub(crate) fn of_file(path: &str, error: &io::Error) -> Self {
+        Refusal::at(ProgramFault::NoFile, path).and(error)
+    }
+
+    /// The refusal with a reason added.
     pub(crate) fn and(self, error: &io::Error) -> Self {
         let Refusal { status, line } = self;
         Refusal {
@@ -39,12 +44,12 @@ impl Refusal {
         }
     }
 
-    /// Of out of memory.
+    /// The refusal if out of memory.
     pub(crate) fn no_memory() -> Self {
         Refusal::of(ProgramFault::Serving(ServeFault::NoMemory))
     }
 
-    /// With a path more.
+    /// The refusal with a path added.
     pub(crate) fn with_path(self, path: &str) -> Self {
         let Refusal { status, line } = self;
         Refusal {

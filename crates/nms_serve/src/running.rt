@@ -3,21 +3,21 @@ use crate::opening::serve_request;
 use crate::program_fault::ProgramFault;
 use crate::words::Request;
 use nms_serving::{ServeFault, Teller};
-use std::alloc::{AllocError, Global};
+use std::alloc::AllocError;
 use std::sync::{Arc, Wait};
 use std::thread;
 use std::thread::Threads;
 
-/// Serves a request in a thread of its own, and gives the exit status. The process ends when this returns, though threads may
-/// still run then: a second after a fault, or after the end, it waits for none of them.
+/// Serves a request in its own thread, and gives the exit status. The process ends when this returns, though threads may still
+/// run then. A second after a fault, or after the end, it waits for none of them.
 ///
-/// It fails only where nothing was opened yet: out of memory, or a thread could not be started.
+/// It fails only if nothing was opened yet: out of memory, or a thread could not be started.
 pub(crate) fn run_request<R: Threads + Wait + Sync + Copy + Send + 'static>(
     rt: &R,
     host: &HostRuntime,
     request: Request,
 ) -> Result<u8, ProgramFault> {
-    let Ok([teller, printing, serving]) = tellers_in(host.alloc()) else {
+    let Ok([teller, printing, serving]) = tellers_in(host, request.log_time) else {
         return Err(ProgramFault::Serving(ServeFault::NoMemory));
     };
     let (own, files) = (*rt, *host);
@@ -31,9 +31,10 @@ pub(crate) fn run_request<R: Threads + Wait + Sync + Copy + Send + 'static>(
     Ok(teller.wait_for_end(rt, host))
 }
 
-/// One teller, for three threads.
-fn tellers_in(alloc: Global) -> Result<[Arc<Teller>; 3], AllocError> {
-    let teller = Arc::new(alloc, Teller::new(alloc)?)?;
+/// One teller, which three threads share. Its lines may have their times.
+fn tellers_in(host: &HostRuntime, has_times: bool) -> Result<[Arc<Teller>; 3], AllocError> {
+    let (alloc, clock) = (host.alloc(), if has_times { Some(*host) } else { None });
+    let teller = Arc::new(alloc, Teller::new(alloc, clock)?)?;
     let (second, third) = (Arc::try_clone(&teller)?, Arc::try_clone(&teller)?);
     Ok([teller, second, third])
 }

@@ -1,4 +1,4 @@
-//! Why the tape of an earlier run can't be gone on with.
+//! Why a run can't go on with the tape of an earlier one.
 use nms_serving::ResumeFault;
 use std::fmt;
 use thiserror::Error;
@@ -8,13 +8,13 @@ use thiserror::Error;
 pub(crate) enum TapeFault {
     /// Another run holds the tape.
     Held,
-    /// There are files of the tape, and none of its setup.
+    /// There are files of the tape, but none of its setup.
     NoSetup,
     /// The tape was made under another setup.
     OtherSetup,
     /// A file of an epoch is missing.
     Missing,
-    /// A file of the tape is no file that can be cut, or no epoch has its number.
+    /// A file of the tape can't be cut because it is no plain file, or no epoch has its number.
     NoEpoch,
     /// Nothing of an epoch was published, and there is a later one.
     Unpublished,

@@ -1,25 +1,26 @@
-//! The files of a tape in its folder: FILE.setup, FILE and FILE.published, then FILE.1 and FILE.1.published, and so on.
+//! The files of a tape in its folder: FILE.setup, FILE, FILE.published and FILE.times, then FILE.1, FILE.1.published and FILE.1.times,
+//! and so on.
 use crate::program_fault::ProgramFault;
 use crate::refusal::Refusal;
-use nms_serving::{MOST_EPOCHS, Stream};
+use nms_serving::{MOST_EPOCHS, PUBLISHED, Stream};
 use std::alloc::Global;
 use std::io::ErrorKind;
 use std::os::unix::fs::FileTypeExt;
 use std::{fs, io};
 
-/// The end of the name of a file of lengths.
-pub(crate) const PUBLISHED: &str = ".published";
+/// The end of the name of a file of times.
+pub(crate) const TIMES: &str = ".times";
 /// The end of the name of the file with the setup's text.
 pub(crate) const SETUP: &str = ".setup";
 
-/// Which file of a tape a name is.
+/// The part of a tape that a name is of.
 #[derive(Clone, Copy, Debug, PartialEq, Eq)]
 pub(crate) enum Part {
-    /// That of its setup.
+    /// The file of its setup.
     Setup,
-    /// One of an epoch's two.
+    /// One of an epoch's three files.
     Epoch(u64),
-    /// It has a number that is no epoch's.
+    /// A file with a number that no epoch has.
     NoEpoch,
 }
 
@@ -30,7 +31,7 @@ pub(crate) struct TapeFile {
     pub(crate) part: Part,
 }
 
-/// The files of a tape that are there, of any epoch. The names in its folder are looked through.
+/// The files of a tape that are there, of any epoch. It reads all names in the folder.
 pub(crate) fn files_of_tape(
     host: &HostRuntime,
     alloc: Global,
@@ -45,7 +46,7 @@ pub(crate) fn files_of_tape(
     for entry in listing {
         let entry = match entry {
             Ok(entry) => entry,
-            // A name that is not UTF-8 is none of the tape's.
+            // A name that is not UTF-8 is not one of the tape's.
             Err(error) if error.kind() == ErrorKind::InvalidFilename => continue,
             Err(error) => return Err(Refusal::of_stream(Stream::Tape, path, &error)),
         };
@@ -62,7 +63,7 @@ pub(crate) fn files_of_tape(
     Ok(files)
 }
 
-/// Refuses a tape of which there is a file. A FIFO or a device may be there, since it holds nothing.
+/// Refuses a tape of which there is a file. A FIFO or a device may be there, because it holds nothing.
 pub(crate) fn refuse_files(host: &HostRuntime, files: &[TapeFile]) -> Result<(), Refusal> {
     for file in files {
         if !is_device(fs::metadata(host, file.path.as_str())) {
@@ -81,7 +82,7 @@ pub(crate) fn is_device(found: io::Result<fs::Metadata>) -> bool {
 }
 
 /// The folder of a path with its last slash, and the name in it.
-fn parts_of(path: &str) -> (&str, &str) {
+pub(crate) fn parts_of(path: &str) -> (&str, &str) {
     let Some((_, base)) = path.rsplit_once('/') else {
         return ("", path);
     };
@@ -92,12 +93,15 @@ fn parts_of(path: &str) -> (&str, &str) {
 }
 
 /// Which file of a tape a name is, if it is one.
-fn part_of(base: &str, name: &str) -> Option<Part> {
+pub(crate) fn part_of(base: &str, name: &str) -> Option<Part> {
     let rest = name.strip_prefix(base)?;
     if rest == SETUP {
         return Some(Part::Setup);
     }
-    let number = rest.strip_suffix(PUBLISHED).unwrap_or(rest);
+    let number = match rest.strip_suffix(PUBLISHED) {
+        Some(number) => number,
+        None => rest.strip_suffix(TIMES).unwrap_or(rest),
+    };
     if number.is_empty() {
         return Some(Part::Epoch(0));
     }
@@ -108,7 +112,7 @@ fn part_of(base: &str, name: &str) -> Option<Part> {
     Some(epoch_of(digits))
 }
 
-/// The epoch after the first that is written in digits.
+/// The later epoch whose number is written in digits.
 fn epoch_of(digits: &str) -> Part {
     if digits.starts_with('0') {
         return Part::NoEpoch;

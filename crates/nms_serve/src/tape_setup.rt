@@ -1,4 +1,4 @@
-//! FILE.setup beside a tape: the text of its setup, and the lock by which a run holds the tape.
+//! The file FILE.setup next to a tape. It has the text of its setup, and the lock by which a run holds the tape.
 use crate::program_fault::ProgramFault;
 use crate::refusal::Refusal;
 use crate::tape_fault::TapeFault;
@@ -8,7 +8,7 @@ use std::fs::{File, OpenOptions, TryLockError};
 use std::io;
 use std::io::{ErrorKind, Read, Write};
 
-/// Makes the file of a new tape's setup, and holds it for as long as it is open.
+/// Makes the file of a new tape's setup, and holds it while it is open.
 pub(crate) fn hold_new(host: &HostRuntime, path: &str) -> Result<File, Refusal> {
     match OpenOptions::new()
         .write(true)
@@ -23,7 +23,7 @@ pub(crate) fn hold_new(host: &HostRuntime, path: &str) -> Result<File, Refusal> 
     }
 }
 
-/// Holds the file of an earlier tape's setup for as long as it is open. `None` if there is none.
+/// Holds the file of an earlier tape's setup while it is open. `None` if there is none.
 pub(crate) fn hold_left(host: &HostRuntime, path: &str) -> Result<Option<File>, Refusal> {
     match OpenOptions::new().read(true).write(true).open(host, path) {
         Ok(file) => match file.metadata() {
@@ -47,7 +47,7 @@ fn held(file: File, path: &str) -> Result<File, Refusal> {
     }
 }
 
-/// Writes the text of the setup, and waits for the disk: so each tape has its setup, whatever ends the machine.
+/// Writes the text of the setup, and waits for the disk, so that each tape has its setup even if the machine fails.
 pub(crate) fn write_setup(file: &mut File, text: &[u8], path: &str) -> Result<(), Refusal> {
     match put(file, text) {
         Ok(()) => Ok(()),
@@ -58,7 +58,7 @@ pub(crate) fn write_setup(file: &mut File, text: &[u8], path: &str) -> Result<()
     }
 }
 
-/// Makes a text the whole of a file that was just opened.
+/// Replaces the content of a file that was just opened by a text.
 fn put(file: &mut File, text: &[u8]) -> io::Result<()> {
     file.set_len(0)?;
     file.write_all(text)?;

@@ -5,7 +5,7 @@ use nms_serving::Served;
 use std::io::Write;
 use std::{fmt, io};
 
-/// Reports a fault on standard error, and gives its exit status. If standard error does not take it, the status stays.
+/// Reports a fault on standard error, and gives its exit status. If standard error does not take it, the status is the same.
 pub(crate) fn tell_fault(host: &HostRuntime, fault: &ProgramFault) -> u8 {
     let _ = if let ProgramFault::Words(WordsFault::Parser { text, .. }) = fault {
         eprint!(host; "{text}")
@@ -23,7 +23,7 @@ pub(crate) fn tell_help(host: &HostRuntime, help: &str) -> u8 {
     }
 }
 
-/// The end of the tape. The first epoch has no number.
+/// The report of the end of the tape. The first epoch has no number.
 #[derive(Clone, Copy)]
 pub(crate) struct TapeNotice {
     changes: u64,
@@ -32,7 +32,7 @@ pub(crate) struct TapeNotice {
 }
 
 impl TapeNotice {
-    /// Of a run that is over.
+    /// The report of a run that is over.
     pub(crate) fn of(served: &Served) -> Self {
         TapeNotice {
             changes: served.changes,

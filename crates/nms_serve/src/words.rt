@@ -1,4 +1,4 @@
-//! The words of the command line: the request that they make, or why they are refused.
+//! The arguments of the command line: the request that they make, or why they are refused.
 mod command_line;
 mod command_words;
 mod help_text;

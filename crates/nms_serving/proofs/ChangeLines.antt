@@ -1,4 +1,4 @@
--- The record of each change is one line: one line feed stands in its text, at its end.
+-- The record of each change is one line: its text has one line feed, at its end.
 use Rattle.std.proofs.Common.{ℕ, suc, ◌≡◌, ◌+◌, ◌==◌, Bool, true, false, List, [], ◌∷◌, ◌++◌, Option, Some, None}
 use Rattle.std.proofs.Common.{refl, ap, subst, ◌∙◌, arith, append_assoc, length}
 use Rattle.std.proofs.lemmas.Bool.{eqb-true}

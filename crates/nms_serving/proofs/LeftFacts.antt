@@ -59,7 +59,7 @@ rest_some met rest count published text behind gave same after is =
 
 module _ (settings : Settings) (tape : Tape) (lengths : List ℕ) (published : ℕ) (text listed : List ℕ)
     (left : IsLeft settings tape lengths published text listed) where
-  -- the lengths are read up to the last whole line
+  -- the lengths are read up to the last complete line
   pub are_listed : settings.tape_limit ≤ MOST_CHANGES → AreListed lengths published left.torn listed
   are_listed limit =
       let short : length (decimal left.next) ≤ MOST_DIGITS =
@@ -82,7 +82,7 @@ module _ (settings : Settings) (tape : Tape) (lengths : List ℕ) (published : �
       ap (λ (n : ℕ). after_lines n text) (sym many_shown) ∙ ap (after_lines (length (version published tape))) left.recorded
       ∙ lines.behind (version published tape) left.behind
 
-  -- of which no more lines begin than may
+  -- no more lines of it begin than may
   pub few_behind : HasLines settings.roster → lines_begun true left.behind ≤ most_behind settings.roster published
   few_behind lines = omega (
     arith,

@@ -30,7 +30,7 @@ after_none (suc left) (byte ∷ text) some none = absurd (omega (arith, none))
 
 -- ---- a line
 
--- no line feed stands in a text
+-- no line feed is in a text
 pub record IsUnbroken (text : List ℕ) : Type 0 where
   pub none : list_any (λ byte. byte == 10) text ≡ false
 

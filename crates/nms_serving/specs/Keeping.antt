@@ -41,7 +41,7 @@ with_change keeping change = record keeping {
   board = after keeping.board change;
 }
 
--- the whole tape is published, with the writers as they are then
+-- all of the tape is published, with the writers as they are then
 abbrev pub with_all_published : {X Y : Type 0} → Keeping X Y → X → Y → Keeping X Y
 with_all_published keeping tape lengths = record keeping {
   publisher = record keeping.publisher { published = committed keeping.publisher.published keeping.publisher.pending; pending = [] };
@@ -74,7 +74,7 @@ LeavesPart tape_of_writer lengths_of_writer old new =
     ⊎ (Appends (tape_of_writer old.tape) (tape_of_writer new.tape) (unwritten old)
     × AppendsPart (lengths_of_writer old.lengths) (lengths_of_writer new.lengths) (length_line (length (tape_of old.publisher))))
 
--- a change is not taken: it is not of the roster, or the tape has as many changes as it may
+-- a change is not taken, because it is not of the roster, or the tape has the most changes that it may have
 abbrev pub IsRefused : Taped → Change → Type 0
 IsRefused taped change = (holds taped.sizes change ≡ false) ⊎ (length (tape_of taped) ≡ taped.limit)
 

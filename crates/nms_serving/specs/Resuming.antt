@@ -62,7 +62,7 @@ pub record GoesOn (settings : Settings) (tape : Tape) (lengths : List ℕ) (publ
   pub text : left.tape_end ≡ length (changes_text settings.roster (version published tape))
   pub listed : left.lengths_end ≡ length (lengths_text lengths)
 
--- whatever the files are: the board is that of the records before the cut, which say as many changes as are counted
+-- for any files: the board is that of the records before the cut, and their number of changes is the one counted
 pub record IsOfRecords (settings : Settings) (text : List ℕ) (left : LeftBoard) : Type 0 where
   pub tape : Tape
   pub read : IsFileTape settings (Some (take left.tape_end text)) tape

@@ -25,9 +25,9 @@ use std::{io, thread};
 /// The source of a client's requests, and the target of its answers.
 #[derive(Drop)]
 pub enum ClientStreams<'a> {
-    /// Standard input and standard output.
+    /// The client uses standard input and standard output.
     Standard,
-    /// Two paths.
+    /// The client uses two paths.
     Paths {
         /// The path of its requests.
         input: Door<'a>,
@@ -57,8 +57,8 @@ pub(crate) struct Client<'a, L> {
     pub(crate) tally: &'a Tally,
 }
 
-/// Answers the requests of a client to the end of their stream. If the run keeps FIFOs open, it answers one router after another, to
-/// the end of the run. Its end is reported. A fault ends the run.
+/// Answers the requests of a client to the end of their stream. If the run keeps FIFOs open, it answers one router after
+/// another, to the end of the run. The client's end is reported. A fault ends the run.
 pub(crate) fn serve_client<R: Threads + Wait + Sync, L: LaterDesks>(
     means: &Means<'_, R>,
     client: &Client<'_, L>,
@@ -73,7 +73,7 @@ pub(crate) fn serve_client<R: Threads + Wait + Sync, L: LaterDesks>(
         Ok(counts) => Some(counts),
         Err(fault) => {
             run.fail(fault);
-            // A run that was asked to end may break off any stream: that is no fault.
+            // No fault is reported here, because a run that was asked to end may break off any stream.
             if run.is_failed() {
                 None
             } else {
@@ -81,6 +81,7 @@ pub(crate) fn serve_client<R: Threads + Wait + Sync, L: LaterDesks>(
             }
         }
     };
+    client.tally.end_client();
     let end = ClientEnd { number, counts };
     means.run.teller.keep(means.rt, Text::of(ClientNotice(end)));
     means.run.end_client();
@@ -162,7 +163,7 @@ fn open_both<R: Threads + Wait + Sync>(
     )
 }
 
-/// A stream that was opened at a door, or the fault that ends the run.
+/// The stream, if it was opened at a door; else the fault that ends the run.
 fn opened(
     run: &Run<'_>,
     door: &Door<'_>,

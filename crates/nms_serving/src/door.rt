@@ -15,18 +15,18 @@ use std::thread::Threads;
 use std::time::Duration;
 use std::{fs, io, thread};
 
-/// How long a thread that wakes another keeps a FIFO open, in seconds: the process ends before.
+/// How many seconds a thread that wakes another keeps a FIFO open. It is longer than the process goes on.
 const KEPT: u64 = 86_400;
 
-/// How long it leaves the answers in a FIFO to their reader, in milliseconds. This product's own rule.
+/// How many milliseconds the answers stay in a FIFO for their reader. This product's own rule.
 const LEFT: u64 = 600;
 
 /// The end of a FIFO that a thread of the run has.
 #[derive(Clone, Copy)]
 pub(crate) enum Side {
-    /// It reads.
+    /// The thread reads from the FIFO.
     Reads,
-    /// It writes.
+    /// The thread writes to the FIFO.
     Writes,
 }
 
@@ -37,7 +37,7 @@ pub struct Door<'a> {
 }
 
 impl<'a> Door<'a> {
-    /// Of a path.
+    /// A door at a path.
     pub fn new(path: &'a str) -> Self
         ensures { path_of result ≡ path.now }
     {
@@ -79,8 +79,8 @@ impl<'a> Door<'a> {
     }
 
     /// Opens the FIFO to read it, and waits for no writer: it has one during this call, and none afterwards. The second opening
-    /// goes by the first. So both are of one FIFO, though the path may name another by then. `None` if the path names nothing
-    /// by now.
+    /// uses the path of the first one's file, so both are of one FIFO, even if the path names another by then. `None` if the
+    /// path names nothing by now.
     pub(crate) fn open_anew(
         &self,
         files: &HostRuntime,
@@ -135,7 +135,7 @@ impl<'a> Door<'a> {
         is_fifo(host, self.path)
     }
 
-    /// Whether there is another FIFO now than the one that was opened: the old one was removed, and one was made again.
+    /// Whether the path now names another FIFO than the one that was opened, because the old one was removed and a new one made.
     pub(crate) fn is_renewed(&self, host: &HostRuntime, opened: &File) -> bool {
         let (Ok(now), Ok(then)) = (fs::metadata(host, self.path), opened.metadata()) else {
             return false;
@@ -143,8 +143,8 @@ impl<'a> Door<'a> {
         now.file_type().is_fifo() && (now.ino() != then.ino() || now.dev() != then.dev())
     }
 
-    /// Wakes the thread of the run that waits here at a FIFO, if one does. Another thread does that, and the process ends
-    /// without waiting for it. It opens both ends of the FIFO, and writes a line feed or reads what is in it.
+    /// Wakes the thread of the run that waits here at a FIFO, if one does. Another thread does that, so that the process can
+    /// end without waiting for it. It opens both ends of the FIFO, and writes a line feed or reads what is in it.
     pub(crate) fn wake<R: Threads>(&self, rt: &R, host: &HostRuntime, alloc: Global, side: Side) {
         if !self.is_fifo(host) {
             return;
@@ -192,7 +192,7 @@ fn keep_open(host: &HostRuntime, path: &str, side: Side) {
             thread::sleep(host, Duration::from_secs(KEPT));
         }
         Side::Writes => {
-            // A thread that waited for a reader goes on now. Answers that a router can still read are left to it meanwhile.
+            // A thread that waited for a reader goes on now. Meanwhile a router can still read the answers that are in the FIFO.
             thread::sleep(host, Duration::from_millis(LEFT));
             take_all_bytes(&mut file);
         }

@@ -3,8 +3,8 @@ use crate::run::Run;
 use std::io;
 use std::io::{ErrorKind, Read};
 
-/// A stream of a run. After the run was asked to end it fails where it would be at its end: so what was begun of a line is dropped,
-/// and not refused.
+/// A stream of a run. After the run was asked to end, it fails instead of being at its end. So the beginning of a line is
+/// dropped and not refused.
 #[derive(Drop)]
 pub(crate) struct Ending<'a, F> {
     stream: F,
@@ -12,7 +12,7 @@ pub(crate) struct Ending<'a, F> {
 }
 
 impl<'a, F> Ending<'a, F> {
-    /// Over a stream of the run.
+    /// A wrapper for a stream of the run.
     pub(crate) fn new(stream: F, run: &'a Run<'a>) -> Self {
         Ending { stream, run }
     }

@@ -18,7 +18,7 @@ use std::marker::PhantomData;
 use std::mem::replace;
 use std::sync::Wait;
 
-/// The opener of an epoch's files: that of its tape, and that of the lengths beside it.
+/// The opener of an epoch's files: its tape, and the lengths next to it.
 pub trait EpochFiles<X, Y> {
     /// Opens the files of an epoch, counted from 0. Each has to be empty.
     fn open(&self, epoch: u64) -> Result<(X, Y), ServeFault>;
@@ -27,13 +27,13 @@ pub trait EpochFiles<X, Y> {
 /// The means to begin the next epoch.
 #[derive(Drop)]
 pub(crate) struct NextEpoch<'a, F, H: House> {
-    /// The opener of its files.
+    /// The opener of the epoch's files.
     pub(crate) files: &'a F,
-    /// Where the clients find their desks of it.
+    /// The slots in which the clients find their desks of the epoch.
     pub(crate) slots: &'a [Slot<H>],
 }
 
-/// The epoch of a run now, and the sums of the earlier ones. It is not `Drop`: end it by `end`.
+/// The present epoch of a run, and the sums of the earlier ones. It is not `Drop`, so end it by `end`.
 pub(crate) struct Epochs<'a, H: House, X: Write, Y: Write> {
     keeper: Keeper<'a, X, Y>,
     /// The number of the epoch.
@@ -53,7 +53,7 @@ pub(crate) struct Epochs<'a, H: House, X: Write, Y: Write> {
 }
 
 impl<'a, H: House, X: Write, Y: Write> Epochs<'a, H, X, Y> {
-    /// The epoch with which a run begins. All that its tape has by now are its opening changes.
+    /// The epoch with which a run begins. So far its tape has only its opening changes.
     pub(crate) fn new(keeper: Keeper<'a, X, Y>, epoch: u64) -> Self
         requires sizes { keeper.publisher.sizes ≡ H.sizes }
         requires within { epoch ≤ MOST_EPOCHS }
@@ -85,6 +85,15 @@ impl<'a, H: House, X: Write, Y: Write> Epochs<'a, H, X, Y> {
         self.epoch
     }
 
+    /// How many changes the epoch's tape has, if all of them are published.
+    pub(crate) fn version(&self) -> Option<u64> {
+        if self.keeper.waiting() == 0 {
+            Some(self.keeper.changes())
+        } else {
+            None
+        }
+    }
+
     /// Publishes the waiting changes.
     pub(crate) fn publish<R: Wait>(&mut self, rt: &R) -> Result<(), ServeFault> {
         if self.keeper.waiting() == 0 {
@@ -93,7 +102,7 @@ impl<'a, H: House, X: Write, Y: Write> Epochs<'a, H, X, Y> {
         self.keeper.publish(rt)
     }
 
-    /// Takes a change in. If the tape is full, the next epoch begins before.
+    /// Takes a change in. If the tape is full, the next epoch begins first.
     pub(crate) fn take_in<R: Wait, F: EpochFiles<X, Y>>(
         &mut self,
         means: &Means<'_, R>,
@@ -114,8 +123,8 @@ impl<'a, H: House, X: Write, Y: Write> Epochs<'a, H, X, Y> {
         self.keeper.take_in(means.rt, change)
     }
 
-    /// Publishes the waiting changes, and begins the next epoch. Its opening changes are published, then each client's desk of
-    /// it is laid in its slot, and then this one's publishing ends.
+    /// Publishes the waiting changes, and begins the next epoch. The epoch's opening changes are published and each client's
+    /// desk of it is put into its slot. Then the publishing of the old epoch ends.
     fn begin_next<R: Wait, F: EpochFiles<X, Y>>(
         &mut self,
         means: &Means<'_, R>,
@@ -155,7 +164,7 @@ impl<'a, H: House, X: Write, Y: Write> Epochs<'a, H, X, Y> {
         }
     }
 
-    /// Goes on with the keeper of the next epoch, and ends this one's.
+    /// Goes on with the keeper of the next epoch, and ends the publishing of this one.
     fn go_on<R: Wait>(&mut self, rt: &R, keeper: Keeper<'a, X, Y>)
     where
         X: Drop,
@@ -189,7 +198,7 @@ impl<'a, H: House, X: Write, Y: Write> Epochs<'a, H, X, Y> {
     }
 }
 
-/// Lays each client's desk of an epoch in its slot. The desk knows what is published, so it shows nothing older.
+/// Puts each client's desk of an epoch into its slot. The desk knows what is published, so it shows nothing older.
 pub(crate) fn hand_over<R: Wait, H: House, X: Write, Y: Write>(
     rt: &R,
     slots: &[Slot<H>],

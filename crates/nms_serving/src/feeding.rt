@@ -20,7 +20,7 @@ use std::sync::Wait;
 use std::thread;
 use std::time::Duration;
 
-/// How long a feed rests before it looks for the next writer of its FIFO, in milliseconds. This product's own rule.
+/// How many milliseconds a feed rests before it looks for the next writer of its FIFO. This product's own rule.
 const REST: u64 = 10;
 
 /// The result of a feed's thread.
@@ -32,8 +32,8 @@ pub struct FeedEnd {
     pub counts: FeedCounts,
 }
 
-/// Reads the feed of a sender from its path to the end of the stream, and sends its changes. Its end is reported. A fault ends the
-/// run.
+/// Reads the feed of a sender from its path to the end of the stream, and sends its changes. The feed's end is reported. A
+/// fault ends the run.
 pub(crate) fn feed_all<R: Wait + Sync>(
     means: &Means<'_, R>,
     door: &Door<'_>,
@@ -57,8 +57,8 @@ pub(crate) fn feed_all<R: Wait + Sync>(
 }
 
 /// Opens a feed's path, and sends the changes of its stream. If the run reads on, a FIFO whose writer left is read on: this end
-/// stays open, so that no writer finds it closed. A last record without its line feed is refused before. A FIFO that was
-/// removed and made again is opened anew.
+/// stays open, so that no writer finds it closed. A last record without its line feed is refused first. If a FIFO was removed
+/// and made again, the new one is opened.
 fn read_feed<R: Wait + Sync>(
     means: &Means<'_, R>,
     door: &Door<'_>,
@@ -73,12 +73,16 @@ fn read_feed<R: Wait + Sync>(
         Ok(file) => file,
         Err(error) => return Err(door.refuse(run, Stream::Feed(feed), &error)),
     };
+    let voice = run.voices.of(feed);
+    voice.open();
     let is_kept = run.ways.keep && is_open_fifo(&file);
     let watcher = Watcher::new(means.rt, means.host, run);
     for _ in 0..u64::MAX {
         // The clients are checked before the stream: changes written before they ended are still read.
         let is_last = !is_kept || run.is_closing();
+        voice.begin_to_read();
         read_writer(means, door, &mut file, &watcher, counts, sender)?;
+        voice.end_of_writers();
         if is_last {
             return Ok(());
         }
@@ -92,7 +96,7 @@ fn read_feed<R: Wait + Sync>(
                     file = again;
                     continue;
                 }
-                // It was removed once more.
+                // The FIFO was removed once more.
                 Ok(None) => {}
                 Err(error) => return Err(door.refuse(run, Stream::Feed(feed), &error)),
             }

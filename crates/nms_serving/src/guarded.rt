@@ -10,8 +10,8 @@ use crate::serve_fault::ServeFault;
 use std::io;
 use std::io::{ErrorKind, Read, Write};
 
-/// A stream of a run. A read or a write that fails ends the run. When the run ends, a reader is at its end; if a fault ends it, a
-/// writer fails.
+/// A stream of a run. A read or a write that fails ends the run. When the run ends, a reader is at its end. If a fault ends the
+/// run, a writer fails.
 #[derive(Drop)]
 pub struct Guarded<'a, F> {
     stream: F,
@@ -20,7 +20,7 @@ pub struct Guarded<'a, F> {
 }
 
 impl<'a, F> Guarded<'a, F> {
-    /// Over a stream of the run, with the name by which a fault reports it.
+    /// A wrapper for a stream of the run, with the name by which a fault reports it.
     pub fn new(stream: F, run: &'a Run<'a>, named: Named<'a>) -> Self
         ensures { stream_of result ≡ stream }
     {

@@ -1,9 +1,12 @@
-//! How clients get their desks of later epochs: the taker lays each in its client's slot.
+//! How clients get their desks of later epochs: the taker puts each into its client's slot.
 ghost use Rattle.std.specs.Prelude.{◌≡◌, ◌<◌, IfSome};
 ghost use Rattle.nms_quote.specs.Roster.{sizes_of};
 
+use crate::recording::{Answered, Record};
+use crate::serving::Means;
 use crate::tally::Tally;
 use nms_answers::{EpochDesk, LaterDesks};
+use nms_lines::ByteRecord;
 use std::marker::{Brand, PhantomData};
 use std::sync::atomic::{AtomicU64, Ordering};
 use std::sync::{Mutex, Wait};
@@ -22,18 +25,18 @@ impl Sizing for Brand {
     ghost sizes = { record { parts = 0; lots = [] } };
 }
 
-/// A desk of the run's roster, as it is laid down for a client.
+/// A desk of the run's roster, as it is kept for a client.
 pub(crate) trait House: Drop {
     ghost use Rattle.nms_quote.specs.Roster.{Sizes};
 
     // The sizes of the roster.
     ghost sizes: { Sizes };
 
-    /// Of a desk.
+    /// Keeps a desk.
     fn keep(desk: EpochDesk) -> Self
         requires sizes { desk.desk.sizes ≡ sizes };
 
-    /// The desk.
+    /// Gives the desk back.
     fn give(self) -> EpochDesk
         ensures sizes { result.desk.sizes ≡ sizes };
 }
@@ -62,10 +65,10 @@ impl<B: Sizing> House for HouseDesk<B> {
     }
 }
 
-/// Where a client finds its desk of the latest epoch, until it goes over to it.
+/// The place in which a client finds its desk of the latest epoch, until it goes over to it.
 #[derive(Drop)]
 pub(crate) struct Slot<H: House> {
-    /// The latest epoch whose desk was laid here; 0 if none was.
+    /// The latest epoch whose desk was put here; 0 if none was.
     epoch: AtomicU64,
     desk: Mutex<Option<H>>,
     /// How many requests of the client were answered.
@@ -73,7 +76,7 @@ pub(crate) struct Slot<H: House> {
 }
 
 impl<H: House> Slot<H> {
-    /// With no desk.
+    /// A slot with no desk.
     pub(crate) fn new() -> Self {
         Slot {
             epoch: AtomicU64::new(0),
@@ -82,7 +85,7 @@ impl<H: House> Slot<H> {
         }
     }
 
-    /// Lays a desk here, in place of that of an earlier epoch to which the client never went over.
+    /// Puts a desk here, in place of the desk of an earlier epoch to which the client never went over.
     pub(crate) fn lay<R: Wait>(&self, rt: &R, desk: EpochDesk)
         requires sizes { desk.desk.sizes ≡ H.sizes }
     {
@@ -91,7 +94,7 @@ impl<H: House> Slot<H> {
         self.epoch.store(epoch, Ordering::SeqCst);
     }
 
-    /// Takes the desk, if its epoch is later than that.
+    /// Takes the desk, if its epoch is later than the given one.
     fn take<R: Wait>(&self, rt: &R, epoch: u64) -> Option<EpochDesk>
         ensures later { IfSome result (λ next. epoch < next.epoch) }
         ensures sizes { IfSome result (λ next. next.desk.sizes ≡ H.sizes) }
@@ -108,18 +111,35 @@ impl<H: House> Slot<H> {
     }
 }
 
-/// A client's slot, with the means to wait for its lock.
+/// A client's slot, with the means to wait for its lock and to record its answers.
 #[derive(Drop)]
 pub(crate) struct SlotOf<'a, R, H: House> {
-    pub(crate) rt: &'a R,
+    pub(crate) means: &'a Means<'a, R>,
     pub(crate) slot: &'a Slot<H>,
+    /// The client's number, from 1.
+    pub(crate) number: u8,
+    /// The file to which its answers are recorded.
+    pub(crate) recording: Option<Record<'a>>,
 }
 
 impl<R: Wait, H: House> LaterDesks for SlotOf<'_, R, H> {
     ghost sizes = { H.sizes };
 
     fn later(&self, epoch: u64) -> Option<EpochDesk> {
-        self.slot.take(self.rt, epoch)
+        self.slot.take(self.means.rt, epoch)
+    }
+
+    fn take_down(&self, epoch: u64, request: &ByteRecord, answer: &[u8]) {
+        if let Some(record) = &self.recording {
+            let answered = Answered {
+                client: self.number,
+                epoch,
+                request,
+                answer,
+            };
+            let means = self.means;
+            record.write(means.host, means.alloc, means.run, answered);
+        }
     }
 
     fn note_answer(&self, refused: bool) {

@@ -30,12 +30,12 @@ use std::marker::Model;
 use std::sync::Wait;
 
 /// The taker of a board that runs: it takes the changes of an epoch in, writes each batch, and then publishes it. It is not
-/// `Drop`: end it by `end`.
+/// `Drop`, so end it by `end`.
 ///
-/// `serve` runs one in threads, over paths. A server of one's own calls it in the thread that takes, with any two writers, and
-/// gives the desks of the same opening to the threads that look.
+/// `serve` runs one in threads, over paths. Another server calls it in the thread that takes, with any two writers. It gives
+/// the desks of the same opening to the threads that look.
 ///
-/// If a publishing fails, a file may have a prefix of a text, or all of it. A later batch would follow that part: so end the
+/// If a publishing fails, a file may have a prefix of a text, or all of it. A later batch would follow that part, so end the
 /// keeper.
 pub struct Keeper<'a, X: Write, Y: Write> {
     roster: &'a Roster,
@@ -77,8 +77,8 @@ impl<'a, X: Write, Y: Write> Model for Keeper<'a, X, Y> {
 }
 
 impl<'a, X: Write, Y: Write> Keeper<'a, X, Y> {
-    /// Keeps a tape that was just opened (`open_tape` of `nms_versions`), with a board that has nothing on it. The writers are
-    /// those of the tape and of its lengths. Nothing is written yet.
+    /// A keeper of a tape that was just opened (`open_tape` of `nms_versions`), with a board that has nothing on it. The
+    /// writers are those of the tape and of its lengths. Nothing is written yet.
     #[tactic(auto, using(crate::proofs::KeeperFacts::stands_empty))]
     pub fn new(
         alloc: Global,
@@ -109,7 +109,7 @@ impl<'a, X: Write, Y: Write> Keeper<'a, X, Y> {
     }
 
     /// The keeper of the next epoch, over a tape that was just opened and its files. It begins from this keeper's board
-    /// (`begin`): so a look shows the same before and after.
+    /// (`begin`), so a look shows the same before and after.
     ///
     /// This keeper stays as it is, also at a fault, which is one of `begin`. Then the publishing of the new tape has ended, and
     /// its files may have a prefix of a text.
@@ -151,11 +151,11 @@ impl<'a, X: Write, Y: Write> Keeper<'a, X, Y> {
     }
 
     /// Begins a tape that has no changes yet with the opening changes of a board: they are written to its file and then
-    /// published. So a look shows the same on that board and in the epoch: before and after a full tape, and before and after the
-    /// end of a process.
+    /// published. So a look shows the same on that board and in the epoch. This holds at a full tape, and at the end of a
+    /// process.
     ///
-    /// `NoMemory`, `TapeFull` if the tape has no room for the opening changes, or `NotWritten`. Then end the keeper: its files may
-    /// have a prefix of a text.
+    /// `NoMemory`, `TapeFull` if the tape has no room for the opening changes, or `NotWritten`. Then end the keeper: its files
+    /// may have a prefix of a text.
     #[tactic(auto, using(crate::proofs::KeeperFacts::none_published))]
     pub fn begin<R: Wait>(
         &mut self,
@@ -189,7 +189,7 @@ impl<'a, X: Write, Y: Write> Keeper<'a, X, Y> {
         }
     }
 
-    /// Takes the opening changes of an epoch in, writes them and then publishes them, all at once.
+    /// Takes the opening changes of an epoch in, writes them and then publishes them, all together.
     #[tactic(auto, using(crate::proofs::KeeperFacts::none_published, crate::proofs::KeeperFacts::none_waiting, crate::proofs::KeeperFacts::appends_nothing, crate::proofs::KeeperFacts::taken_whole, crate::proofs::KeeperFacts::some_waiting, crate::proofs::KeeperFacts::recorded_whole, crate::proofs::KeeperFacts::lists_nothing, crate::proofs::KeeperFacts::listed_whole))]
     fn open_with<R: Wait>(&mut self, rt: &R, first: &[Change]) -> Result<(), ServeFault>
         requires empty { tape_of self.old.publisher ≡ [] }
@@ -226,7 +226,7 @@ impl<'a, X: Write, Y: Write> Keeper<'a, X, Y> {
         Ok(())
     }
 
-    /// The message of what is published, for a desk.
+    /// The message about what is published, for a desk.
     pub fn receipt(&mut self) -> Receipt
         ensures opening { result.opening ≡ self.old.publisher.opening }
         ensures published { result.published ≡ self.old.publisher.published }
@@ -235,7 +235,7 @@ impl<'a, X: Write, Y: Write> Keeper<'a, X, Y> {
         self.publisher.receipt()
     }
 
-    /// How many changes the tape has. Of every keeper: its counts are those of the tape, and its board is the tape's.
+    /// How many changes the tape has. This holds for every keeper: its counts are those of the tape, and its board is the tape's.
     pub fn changes(&self) -> u64
         ensures count { result ≡ length (tape_of self.now.publisher) }
         ensures within { result ≤ MOST_CHANGES }
@@ -264,8 +264,9 @@ impl<'a, X: Write, Y: Write> Keeper<'a, X, Y> {
 
     /// Takes a change in. Once `MOST_BATCH` changes wait, they are published, as by `publish`.
     ///
-    /// `TapeFull` exactly if the tape has as many changes as it may, or the change is not of the roster. It leaves all as it
-    /// was, and so does `NoMemory` of the tape. If the publishing fails, the change is on the tape, and no desk sees it:
+    /// `TapeFull` if and only if the tape has as many changes as it may, or the change is not of the roster. It leaves
+    /// everything as it was, and so does `NoMemory` of the tape. If the publishing fails, the change is on the tape, and no
+    /// desk sees it:
     /// `changes` distinguishes these.
     #[tactic(auto, using(crate::proofs::KeeperFacts::longer_appended))]
     pub fn take_in<R: Wait>(&mut self, rt: &R, change: &Change) -> Result<(), ServeFault>
@@ -295,7 +296,7 @@ impl<'a, X: Write, Y: Write> Keeper<'a, X, Y> {
         ensures unchanged { OnErr result (self.new ≡ self.old) }
         ensures full { (result ≡ Err ServeFault.TapeFull) ↔ IsRefused self.old.publisher change.now }
     {
-        // The tape is within its limit.
+        // The prover has to see that the tape is within its limit.
         let _within = self.publisher.tape();
         if !self.board.takes(change) {
             return Err(ServeFault::TapeFull);
@@ -309,12 +310,12 @@ impl<'a, X: Write, Y: Write> Keeper<'a, X, Y> {
         Ok(())
     }
 
-    /// Writes the waiting changes to the tape's file, and the tape's length to the file beside it, and then publishes them. If
-    /// either can't be written, nothing is published: so both writes have ended well before any desk sees the changes.
-    /// `waiting` returns how many there are.
+    /// Writes the waiting changes to the tape's file and the tape's length to the file next to it, and then publishes them. If
+    /// either can't be written, nothing is published. So both writes have succeeded before any desk sees the changes. `waiting`
+    /// returns how many there are.
     ///
-    /// `NotWritten` if a writer fails, which may have taken a prefix, or `NoMemory`. Then the changes still wait, and no
-    /// desk sees them. Unless the tape's file has all of the text, the other has nothing more.
+    /// `NotWritten` if a writer fails, which may have taken a prefix, or `NoMemory`. Then the changes still wait, and no desk
+    /// sees them. Unless the tape's file has all of the text, the other has nothing more.
     #[tactic(auto, using(crate::proofs::KeeperFacts::stands_still, crate::proofs::KeeperFacts::as_long_published))]
     pub fn publish<R: Wait>(&mut self, rt: &R) -> Result<(), ServeFault>
         requires some { self.old.published < length (tape_of self.old.publisher) }
@@ -340,7 +341,7 @@ impl<'a, X: Write, Y: Write> Keeper<'a, X, Y> {
         Ok(())
     }
 
-    /// Writes the waiting changes to the tape's file, and the tape's length to the file beside it.
+    /// Writes the waiting changes to the tape's file, and the tape's length to the file next to it.
     #[tactic(auto, using(crate::proofs::KeeperFacts::no_part, crate::proofs::KeeperFacts::whole_part, crate::proofs::KeeperFacts::leaves_first))]
     fn record(&mut self) -> Result<(), ServeFault>
         ensures same { self.new ≡ with_writers self.old self.new.tape self.new.lengths }
@@ -397,7 +398,7 @@ fn batch_of(tape: &[Change], published: u64) -> &[Change]
     &tape[from..]
 }
 
-/// Makes a text the line of a length.
+/// Replaces a text by the line of a length.
 fn set_length_line(text: &mut Vec<u8>, length: u64) -> Result<(), AllocError>
     ensures { OnOk result (text.new.items ≡ length_line length) }
 {

@@ -1,7 +1,8 @@
-//! The board that runs: feeds and requests are read as they come, each in a thread of its own, and every batch of changes
-//! is on the tape's file before it is published.
+//! The board that runs. Feeds and requests are read as they come, each in its own thread. Every batch of changes is on the
+//! tape's file before it is published.
 #![tactic(auto)]
 
+mod beside;
 mod client;
 mod door;
 mod ending;
@@ -10,7 +11,11 @@ mod feeding;
 mod guarded;
 mod handover;
 mod keeper;
+mod moment;
 mod named;
+mod on_disk;
+mod progress;
+mod recording;
 mod report;
 mod resume_fault;
 mod resuming;
@@ -21,12 +26,16 @@ mod run;
 mod serve_fault;
 mod serving;
 mod signals;
+mod signs;
 mod silence;
+mod status;
 mod stream;
 mod taking;
 mod tally;
+mod tape_disk;
 mod teller;
 mod text;
+mod timed;
 mod voice;
 mod watcher;
 mod watching;
@@ -40,6 +49,7 @@ pub const REFUSED_STATUS: u8 = 6;
 /// The most epochs after the first: 2^32. This product's own rule.
 pub const MOST_EPOCHS: u64 = 1 << 32;
 
+pub use beside::Beside;
 pub use client::{ClientEnd, ClientStreams};
 pub use door::Door;
 pub use epochs::EpochFiles;
@@ -47,14 +57,19 @@ pub use feeding::FeedEnd;
 pub use guarded::Guarded;
 pub use keeper::Keeper;
 pub use named::Named;
+pub use on_disk::OnDisk;
+pub use recording::Record;
 pub use resume_fault::ResumeFault;
 pub use resuming::{LeftBoard, left_board};
 pub use room::{has_room_for_epochs, least_tape_limit};
 pub use run::{Run, Ways};
 pub use serve_fault::ServeFault;
 pub use serving::{GoingOn, Means, Served, resume, serve};
+pub use signs::{Sign, Signs};
 pub use silence::Notice;
 pub use stream::{Stream, letter_of};
 pub use taking::Doors;
+pub use tape_disk::{PUBLISHED, TapeDisk, epoch_paths};
 pub use teller::Teller;
 pub use text::Text;
+pub use timed::{Timed, Times};

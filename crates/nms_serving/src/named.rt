@@ -7,9 +7,9 @@ use crate::text::Text;
 pub struct Named<'a> {
     /// The stream.
     pub stream: Stream,
-    /// Its path. Of a file of the tape: the path of the first epoch's tape.
+    /// Its path. Every file of the tape has the path of the first epoch's tape here.
     pub path: &'a str,
-    /// The epoch of a file of the tape; 0 of any other stream.
+    /// The epoch, if it is a file of the tape; else 0.
     pub epoch: u64,
 }
 
@@ -20,7 +20,8 @@ impl Named<'_> {
         match self.stream {
             Stream::Tape => self.with_epoch(named),
             Stream::Lengths => self.with_epoch(named).with(".published"),
-            Stream::Feed(_) | Stream::Requests(_) | Stream::Answers(_) => named,
+            Stream::Times => self.with_epoch(named).with(".times"),
+            Stream::Feed(_) | Stream::Requests(_) | Stream::Answers(_) | Stream::Record => named,
         }
     }
 

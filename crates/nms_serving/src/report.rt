@@ -41,7 +41,7 @@ fn write_record<W: Write>(to: &mut W, record: &ByteRecord) -> io::Result<()> {
     Ok(())
 }
 
-/// A refused record: `A:17: L6`.
+/// A report of a refused record: `A:17: L6`.
 #[derive(Clone, Copy)]
 struct Refused {
     /// The feed.
@@ -59,14 +59,14 @@ impl fmt::Display for Refused {
     }
 }
 
-/// A silent feed: `feed A: silent for 5 s`.
+/// A report about a silent feed: `feed A: silent for 5 s`.
 #[derive(Clone, Copy)]
 pub(crate) struct Heard {
     /// The feed.
     pub(crate) feed: Feed,
     /// After how many seconds a feed is reported as silent.
     pub(crate) seconds: u32,
-    /// What is reported of it.
+    /// What is reported about it.
     pub(crate) notice: Notice,
 }
 
@@ -80,10 +80,10 @@ impl fmt::Display for Heard {
     }
 }
 
-/// What a feed has come to.
+/// What has happened to a feed.
 #[derive(Clone, Copy)]
 pub(crate) enum FeedNotice {
-    /// It has ended.
+    /// The feed has ended.
     Ended(FeedEnd),
     /// Its writer has left, and the FIFO is read on.
     Left(FeedEnd),
@@ -104,7 +104,7 @@ impl fmt::Display for FeedNotice {
     }
 }
 
-/// The end of a client.
+/// A report that a client has ended.
 #[derive(Clone, Copy)]
 pub(crate) struct ClientNotice(pub(crate) ClientEnd);
 
@@ -124,7 +124,7 @@ impl fmt::Display for ClientNotice {
     }
 }
 
-/// A router of a client has left.
+/// A report that a router of a client has left.
 #[derive(Clone, Copy)]
 pub(crate) struct RouterNotice {
     /// The client's number, from 1.
@@ -158,7 +158,7 @@ impl fmt::Display for RouterFault {
     }
 }
 
-/// How many reports were dropped.
+/// A report of how many reports were dropped.
 #[derive(Clone, Copy)]
 pub(crate) struct Dropped(pub(crate) u64);
 

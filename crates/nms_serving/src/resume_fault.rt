@@ -1,18 +1,18 @@
-//! Why an epoch's files can't be gone on with.
+//! Why a run can't go on with an epoch's files.
 use nms_files::ChangesFault;
 use std::fmt;
 use thiserror::Error;
 
-/// Why the two files of an epoch are not what the end of a process leaves of them, or not under this setup.
+/// Why a run can't go on with the two files of an epoch. They are not what the end of a process leaves, or not under this setup.
 #[derive(Clone, Copy, Debug, PartialEq, Eq, Error)]
 pub enum ResumeFault {
-    /// A line of the lengths is no length, or is no more than the one before it.
+    /// A line of the lengths is no length, or is no greater than the one before it.
     BadLengths,
     /// The tape has fewer lines than its last length says.
     ShortTape,
     /// More lines begin after the last length than may be written and not published.
     TooMuch,
-    /// Lines of the tape are blank, or several make one record.
+    /// The tape has blank lines, or several lines that form one record.
     NotLines,
     /// The setup refuses a record of the tape, or has no room for it.
     Refused(ChangesFault),

@@ -1,4 +1,4 @@
-//! What a run that ended, at whatever moment, has left of an epoch: its board, and where its files are cut (specs/Resuming).
+//! What a run has left of an epoch, at whatever moment it ended: its board, and where its files are cut (specs/Resuming).
 ghost use Rattle.std.specs.Prelude.{ℕ, ◌≡◌, ◌==◌, ◌<◌, ◌≤◌, ◌++◌, All, List, IfOk, IfSome, MatchResult, Some, drop, false, true, length, option_map, position};
 ghost use Rattle.nms_quote.specs.Roster.{sizes_of};
 ghost use Rattle.nms_quote.specs.Tape.{Tape};
@@ -22,7 +22,7 @@ use std::alloc::Global;
 /// The most digits of a length: those of `MOST_CHANGES`.
 const MOST_DIGITS: usize = 8;
 
-/// The board of the changes that an epoch published, and where its files are cut to have these only.
+/// The board of the changes that an epoch published, and the places at which its files are cut to have only these.
 #[derive(Drop)]
 pub struct LeftBoard {
     /// The board, from which the next epoch begins.
@@ -31,13 +31,13 @@ pub struct LeftBoard {
     pub published: u64,
     /// How many bytes of the tape's file record them.
     pub tape_end: usize,
-    /// How many bytes of the lengths' file are whole lines.
+    /// How many bytes of the lengths' file are complete lines.
     pub lengths_end: usize,
     /// How many changes begin after the cut.
     pub cut: u64,
 }
 
-/// The lengths that were published.
+/// The lengths that were published, as their file lists them.
 #[derive(Clone, Copy)]
 struct Listed {
     /// The last of them; 0 if there is none.
@@ -46,10 +46,10 @@ struct Listed {
     end: usize,
 }
 
-/// Reads what is left of an epoch: the bytes of its tape's file, and those of its lengths' file. If the end of a process left them,
-/// whenever it came, the board is that of what was published last. Such files are refused only if out of memory.
+/// Reads what is left of an epoch: the bytes of its tape's file, and those of its lengths' file. If the end of a process left
+/// them, whenever it came, the board is that of what was published last. Such files are refused only if out of memory.
 ///
-/// Files with more after the last length than a run leaves are refused, and so are lengths beyond the tape.
+/// Files that have more after the last length than a run leaves are refused, and so are lengths beyond the tape.
 pub fn left_board(
     alloc: Global,
     setup: &Setup,
@@ -87,7 +87,8 @@ pub fn left_board(
     }
 }
 
-/// The lengths of a text of lines, each above the one before, and a part of one more. `None` if a whole line is none of these.
+/// The lengths of a text of lines, each above the one before, and a part of one more. `None` if a complete line is not such a
+/// length.
 fn listed_lengths(listed: &[u8]) -> Option<Listed>
     ensures found { (lengths : List ℕ) (published : ℕ) (torn : List ℕ) → AreListed lengths published torn listed.now
         → result ≡ Some (record { length = published; end = length (lengths_text lengths) }) }
@@ -113,7 +114,7 @@ fn listed_lengths(listed: &[u8]) -> Option<Listed>
     })
 }
 
-/// What a text has after its first bytes.
+/// What a text has after the given number of bytes.
 fn rest_after(text: &[u8], count: usize) -> &[u8]
     requires within { count ≤ length text.now }
     ensures { result.now ≡ drop count text.now }
@@ -129,7 +130,7 @@ fn line_end(text: &[u8]) -> Option<usize>
     text.iter().position(|byte| *byte == b'\n')
 }
 
-/// What is left of a text after its first lines. `None` if it has fewer.
+/// What is left of a text after the given number of lines. `None` if it has fewer.
 fn after_lines(text: &[u8], lines: u64) -> Option<&[u8]>
     ensures rest { option_map (λ rest. rest.now) result ≡ after_lines lines text.now }
     ensures within { IfSome result (λ rest. length rest.now ≤ length text.now) }
@@ -170,7 +171,7 @@ fn each_change_is_a_line(roster: &Roster)
     symbol_names_are_formed(roster);
 }
 
-/// How many changes may be written and not published, if this number is published.
+/// How many more changes may be written but not published, if this number is published.
 fn most_behind(setup: &Setup, published: u64) -> u64
     ensures { result ≡ most_behind setup.now.roster published }
 {
@@ -181,7 +182,7 @@ fn most_behind(setup: &Setup, published: u64) -> u64
     MOST_BATCH.max(syms * (2 * parts + 1))
 }
 
-/// The board of a text that has this number of records.
+/// The board of a text that has the given number of records.
 fn board_of(alloc: Global, setup: &Setup, text: &[u8], records: u64) -> Result<Boards, ResumeFault>
     ensures taken { (tape : Tape) → All (FitsRecord setup.now.roster) tape → length tape ≤ setup.now.tape_limit
         → text.now ≡ changes_text setup.now.roster tape → records ≡ length tape
@@ -205,7 +206,7 @@ fn board_of(alloc: Global, setup: &Setup, text: &[u8], records: u64) -> Result<B
     Ok(board)
 }
 
-/// Why a text was not read. Bytes in memory are read to their end, unless memory runs out.
+/// Why a text was not read. Bytes in memory are read to their end, except when out of memory.
 fn unread(fault: ChangesFault) -> ResumeFault
     ensures { is_of_line fault ≡ false → result ≡ ResumeFault.NoMemory }
 {

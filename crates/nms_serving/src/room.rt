@@ -4,7 +4,7 @@ ghost use Rattle.nms_serving.specs.Room.{most_opening};
 
 use nms_fees::Setup;
 
-/// The least `tape_limit` that has room for epochs: twice the most opening changes of the setup's roster, which are two for each
+/// The least `tape_limit` that has room for epochs. It is twice the most opening changes of the setup's roster: two for each
 /// participant in a symbol, and one for the symbol.
 pub fn least_tape_limit(setup: &Setup) -> u64
     ensures { result ≡ 2 * most_opening setup.now.roster }

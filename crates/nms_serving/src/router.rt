@@ -1,4 +1,4 @@
-//! The two streams of one router. What fails there is the router's fault: it is reported, and ends no run.
+//! The two streams of one router. If one of them fails, that is the router's fault: it is reported, and the run goes on.
 ghost use Rattle.std.specs.Io.{ReadsAtMost, WritesAtMost};
 
 use crate::door::Door;
@@ -14,25 +14,25 @@ use std::sync::Wait;
 use std::time::Duration;
 use std::{io, thread};
 
-/// How often the first answer is tried again while nobody reads the answers, and how long this rests between two tries, in
-/// milliseconds: 100 in all. This product's own rule.
+/// How often the first answer is tried again while no one reads the answers, and how many milliseconds pass between two tries.
+/// Together they are 100 milliseconds. This product's own rule.
 const TRIES: u32 = 5;
 
 const REST: u64 = 20;
 
-/// The requests of a router. A read fails once the run ends: what was begun of a request is dropped then.
+/// The requests of a router. Once the run ends, a read fails, so that the beginning of a request is dropped.
 #[derive(Drop)]
 pub(crate) struct RouterRequests<'a, 'f, R> {
     means: &'a Means<'a, R>,
     number: u8,
     door: &'a Door<'a>,
     file: &'f File,
-    /// The byte that was read before, until it is given.
+    /// The byte that was read before, until it is passed on.
     first: Option<u8>,
 }
 
 impl<'a, 'f, R> RouterRequests<'a, 'f, R> {
-    /// Of the client of this number, after their first byte was read.
+    /// The requests of the client with this number, after their first byte was read.
     pub(crate) fn new(
         means: &'a Means<'a, R>,
         number: u8,
@@ -49,7 +49,7 @@ impl<'a, 'f, R> RouterRequests<'a, 'f, R> {
         }
     }
 
-    /// Gives the byte that was read before; else reads the file.
+    /// Passes on the byte that was read before; else reads the file.
     fn read_on(&mut self, buf: &mut [u8]) -> io::Result<usize>
         ensures bound { ReadsAtMost result buf.new }
     {
@@ -80,20 +80,20 @@ impl<R: Wait> Read for RouterRequests<'_, '_, R> {
     }
 }
 
-/// The answers to a router. The first one waits until somebody reads them.
+/// The answers to a router. The first one waits until someone reads them.
 #[derive(Drop)]
 pub(crate) struct RouterAnswers<'a, R> {
     means: &'a Means<'a, R>,
     number: u8,
     door: &'a Door<'a>,
-    /// None if it could not be opened.
+    /// The file; none if it could not be opened.
     file: Option<File>,
-    /// A part of an answer was written.
+    /// Whether a part of an answer was written.
     has_begun: bool,
 }
 
 impl<'a, R> RouterAnswers<'a, R> {
-    /// To the client of this number.
+    /// The answers to the client with this number.
     pub(crate) fn new(
         means: &'a Means<'a, R>,
         number: u8,
@@ -152,6 +152,10 @@ impl<'a, R> RouterAnswers<'a, R> {
 
 impl<R: Wait> Write for RouterAnswers<'_, R> {
     fn write(&mut self, buf: &[u8]) -> io::Result<usize> {
+        // This is checked because the disk may have failed to keep what this answer shows.
+        if self.means.run.is_failed() {
+            return Err(io::Error::from(ErrorKind::BrokenPipe));
+        }
         let written = self.write_in_time(buf);
         match &written {
             Ok(_) => self.has_begun = true,
@@ -174,7 +178,8 @@ fn line_of(number: u8, fault: ServeFault) -> Text {
     Text::of(RouterFault { number, fault })
 }
 
-/// Reports a fault of a stream with its path and the reason, unless the run ends. An interrupted call is repeated, and is none.
+/// Reports a fault of a stream with its path and the reason, unless the run ends. An interrupted call is repeated, so it is no
+/// fault.
 fn report<R: Wait>(means: &Means<'_, R>, named: Named<'_>, line: Text, error: &io::Error) {
     if !means.run.is_stopped() && error.kind() != ErrorKind::Interrupted {
         means

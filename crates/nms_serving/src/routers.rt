@@ -1,4 +1,4 @@
-//! A client whose routers come and go, one after another: each has answers of its own.
+//! A client whose routers come and go, one after another. Each router gets its own answers.
 ghost use Rattle.std.specs.Prelude.{◌≡◌};
 ghost use Rattle.nms_quote.specs.Roster.{sizes_of};
 
@@ -17,9 +17,9 @@ use std::sync::Wait;
 use std::thread;
 use std::time::Duration;
 
-/// How long a client's thread rests between two looks for the next router, in milliseconds. This product's own rule.
+/// How many milliseconds a client's thread rests between two looks for the next router. This product's own rule.
 const REST: u64 = 20;
-/// How long the answers stay closed after a router left, so that it finds their end, in milliseconds. This product's own rule.
+/// How many milliseconds the answers stay closed after a router left, so that the router finds their end. This product's own rule.
 const PAUSE: u64 = 100;
 
 /// The two paths of a client.
@@ -34,17 +34,17 @@ pub(crate) struct Paths<'a> {
 /// This run's ends of a client's FIFOs.
 #[derive(Drop)]
 struct Ends {
-    /// The requests: this end stays open, so that no router finds it closed.
+    /// The file of the requests. This end stays open, so that no router finds it closed.
     requests: File,
-    /// The answers; none between two routers, and while their path names nothing.
+    /// The file of the answers. There is none between two routers, and while the path names nothing.
     answers: Option<File>,
 }
 
-/// Answers one router after another, each from its first request to the end of its stream or to its fault, until the run ends. Each
-/// has its requests counted from 1. The desk stays, so no router sees an earlier version than the one before it. Returns how many
-/// requests there were in all.
+/// Answers one router after another, each from its first request to the end of its stream or to its fault, until the run ends.
+/// The requests of each router are counted from 1. The desk stays, so no router sees an earlier version than the one before it.
+/// Returns how many requests all routers sent.
 ///
-/// Neither path is waited for. Each has to be there at first; later this waits until it is there again.
+/// Neither path is waited for. Each has to be there at first. Later this waits until it is there again.
 pub(crate) fn answer_routers<R: Wait, L: LaterDesks>(
     means: &Means<'_, R>,
     client: &Client<'_, L>,
@@ -97,8 +97,8 @@ fn open_ends<R>(means: &Means<'_, R>, number: u8, paths: Paths<'_>) -> Result<En
     }
 }
 
-/// Waits until a router sends the first byte of its requests, and returns it; `None` if the run ends. While no router is there, this
-/// looks again and again, and so finds FIFOs that were made anew.
+/// Waits until a router sends the first byte of its requests, and returns it; `None` if the run ends. While no router is there,
+/// this looks again and again, and so finds FIFOs that were made again.
 fn wait_for_router<R: Wait>(means: &Means<'_, R>, paths: Paths<'_>, ends: &mut Ends) -> Option<u8> {
     let mut first = [0; 1];
     for _ in means.rt.forever() {
@@ -120,8 +120,8 @@ fn wait_for_router<R: Wait>(means: &Means<'_, R>, paths: Paths<'_>, ends: &mut E
     unreachable!()
 }
 
-/// Opens what was closed or made anew. The answers come first: a router makes the requests anew first, so new answers never stand
-/// beside old requests.
+/// Opens what was closed or made again. The answers come first. A router makes the requests again first, so new answers never
+/// go with old requests.
 fn renew_both<R>(means: &Means<'_, R>, paths: Paths<'_>, ends: &mut Ends) {
     let (host, run) = (means.host, means.run);
     let is_old = match &ends.answers {
@@ -138,7 +138,8 @@ fn renew_both<R>(means: &Means<'_, R>, paths: Paths<'_>, ends: &mut Ends) {
     }
 }
 
-/// Opens the answers anew if they were made anew, as the requests were before. Requests of a FIFO that was removed have old answers.
+/// Opens the answers again if their FIFO was made again, as that of the requests was before. Requests of a FIFO that was
+/// removed have old answers.
 fn renew_answers<R>(means: &Means<'_, R>, paths: Paths<'_>, ends: &mut Ends) {
     let host = means.host;
     let is_old = match &ends.answers {
@@ -153,8 +154,8 @@ fn renew_answers<R>(means: &Means<'_, R>, paths: Paths<'_>, ends: &mut Ends) {
     }
 }
 
-/// Answers a router, from the first byte of its requests to their end, and returns how many there were. Its own fault is reported, and
-/// what it still sends is dropped. Its answers are closed when this returns. Another fault is returned.
+/// Answers a router, from the first byte of its requests to their end, and returns how many there were. A fault of the router
+/// is reported, and what it still sends is dropped. Its answers are closed when this returns. Another fault is returned.
 fn answer_router<'a, R: Wait, L: LaterDesks>(
     means: &'a Means<'a, R>,
     client: &Client<'_, L>,
@@ -195,7 +196,7 @@ fn drop_requests<R>(means: &Means<'_, R>, requests: &File) {
     let mut bytes = [0; 4096];
     let mut requests = requests;
     for _ in 0..u64::MAX {
-        // Once the run ends, the line feed that wakes this thread may have been read already.
+        // Requests may come after the run ended, because the line feed that wakes this thread may have been read already.
         if means.run.is_stopped() {
             return;
         }

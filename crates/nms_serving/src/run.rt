@@ -2,10 +2,12 @@
 ghost use Rattle.std.specs.Prelude.{◌≡◌};
 
 use crate::named::Named;
+use crate::progress::Progress;
 use crate::serve_fault::ServeFault;
 use crate::teller::Teller;
 use crate::text::Text;
 use crate::voice::Voices;
+use crossbeam_utils::CachePadded;
 use nms_fees::Setup;
 use nms_quote::Feed;
 use std::io;
@@ -17,25 +19,25 @@ use std::time::Duration;
 /// How a run goes on.
 #[derive(Clone, Copy, Debug, PartialEq, Eq)]
 pub struct Ways {
-    /// A refused record of a feed ends the run.
+    /// Whether a refused record of a feed ends the run.
     pub strict: bool,
-    /// A FIFO of a feed is read on after its writer left, and a client's FIFOs after its router left.
+    /// Whether a FIFO of a feed is read on after its writer left, and a client's FIFOs after its router left.
     pub keep: bool,
-    /// Requests are held until each feed has sent a change or ended.
+    /// Whether requests are held until each feed has sent a change or ended.
     pub wait: bool,
     /// After how many seconds without a record a feed is reported as silent, if at all.
     pub stale: Option<u32>,
 }
 
-/// The state that all threads of a run share: the setup, how many streams are left, the state of each feed, and the first fault. No
-/// proof rests on it.
+/// The state that all threads of a run share: the setup, how many streams are left, the state of each feed, and the first
+/// fault. No proof relies on it.
 #[derive(Drop)]
 pub struct Run<'a> {
     pub(crate) setup: &'a Setup,
     pub(crate) ways: Ways,
-    /// Where its lines go.
+    /// The teller, which prints the run's lines.
     pub(crate) teller: &'a Teller,
-    /// How many feeds and clients have begun and not ended.
+    /// How many feeds and clients have begun and have not ended.
     left: AtomicU64,
     /// How many of them are clients.
     clients: AtomicU64,
@@ -43,7 +45,9 @@ pub struct Run<'a> {
     unheard: AtomicU64,
     /// The state of each feed.
     pub(crate) voices: Voices,
-    /// 0 while requests are held.
+    /// How far the board is.
+    pub(crate) progress: CachePadded<Progress>,
+    /// Whether requests pass: 0 while they are held.
     gate: AtomicU64,
     fault: OnceLock<ServeFault>,
     is_failed: AtomicBool,
@@ -53,7 +57,7 @@ pub struct Run<'a> {
 }
 
 impl<'a> Run<'a> {
-    /// A run in which nothing has begun.
+    /// A run in which no stream has begun.
     pub fn new(setup: &'a Setup, ways: Ways, teller: &'a Teller) -> Self
         ensures { (result.setup.now ≡ setup.now) × (result.ways ≡ ways) }
     {
@@ -65,6 +69,7 @@ impl<'a> Run<'a> {
             clients: AtomicU64::new(0),
             unheard: AtomicU64::new(0),
             voices: Voices::new(),
+            progress: CachePadded::new(Progress::new()),
             gate: AtomicU64::new(u64::from(!ways.wait)),
             fault: OnceLock::new(),
             is_failed: AtomicBool::new(false),
@@ -73,7 +78,7 @@ impl<'a> Run<'a> {
         }
     }
 
-    /// Where its lines go.
+    /// The teller, which prints the run's lines.
     pub fn teller(&self) -> &'a Teller {
         self.teller
     }
@@ -88,24 +93,24 @@ impl<'a> Run<'a> {
         self.end_for(fault, Text::of(fault));
     }
 
-    /// As `fail`, for a stream that could not be opened, read or written: its path and the reason are printed too.
+    /// As `fail`, for a stream that could not be opened, read or written. Its path and the reason are printed too.
     pub fn fail_at(&self, fault: ServeFault, named: Named<'_>, error: &io::Error) {
         self.end_for(fault, named.after(Text::of(fault)).and(error));
     }
 
-    /// As `fail`, for a path where there is something: it is printed too.
+    /// As `fail`, for a path at which there is already something. The path is printed too.
     pub fn fail_at_path(&self, fault: ServeFault, path: &str) {
         self.end_for(fault, Text::of(fault).and_shown(path.as_bytes()));
     }
 
-    /// As `fail`, since a thread could not be started, which is printed too.
+    /// As `fail`, if a thread could not be started. The reason is printed too.
     pub(crate) fn fail_to_start(&self) {
         let fault = ServeFault::NotBegun;
         self.end_for(fault, Text::of(fault).and("a thread could not be started"));
     }
 
-    /// Ends the run for a fault, which is printed as this line if it is the first. A stream that breaks off since the run was asked
-    /// to end is no fault.
+    /// Ends the run for a fault, which is printed as this line if it is the first. A stream that breaks off because the run was
+    /// asked to end is no fault.
     fn end_for(&self, fault: ServeFault, line: Text) {
         if self.is_asked() && fault.is_of_other_end() {
             return;
@@ -123,56 +128,58 @@ impl<'a> Run<'a> {
         self.is_failed.load(Ordering::SeqCst)
     }
 
-    /// Whether the run was asked to end: what was taken is still published.
+    /// Whether the run was asked to end. What was taken is still published.
     pub(crate) fn is_asked(&self) -> bool {
         self.teller.is_asked()
     }
 
-    /// Whether the run ends, for a fault or since it was asked to.
+    /// Whether the run ends, because of a fault or because it was asked to.
     pub(crate) fn is_stopped(&self) -> bool {
         self.is_failed() || self.is_asked()
     }
 
-    /// A feed begins.
+    /// Notes that a feed begins.
     pub(crate) fn begin_feed(&self) {
         self.left.fetch_add(1, Ordering::SeqCst);
         self.unheard.fetch_add(1, Ordering::SeqCst);
     }
 
-    /// A client begins.
+    /// Notes that a client begins.
     pub(crate) fn begin_client(&self) {
         self.left.fetch_add(1, Ordering::SeqCst);
         self.clients.fetch_add(1, Ordering::SeqCst);
     }
 
-    /// A change of a feed was sent.
+    /// Notes that a change of a feed was sent.
     pub(crate) fn note_change(&self, feed: Feed) {
-        self.voices.of(feed).speak();
+        let voice = self.voices.of(feed);
+        voice.speak();
+        voice.count_sent();
         self.note_begun(feed);
         self.teller.wake_taker();
     }
 
-    /// A feed has sent a change, or ended.
+    /// Notes that a feed has sent a change, or ended.
     fn note_begun(&self, feed: Feed) {
         if self.voices.of(feed).begin() {
             self.unheard.fetch_sub(1, Ordering::SeqCst);
         }
     }
 
-    /// A feed has ended.
+    /// Notes that a feed has ended.
     pub(crate) fn end_feed(&self, feed: Feed) {
         self.voices.of(feed).end();
         self.note_begun(feed);
         self.end_stream();
     }
 
-    /// A client has ended.
+    /// Notes that a client has ended.
     pub(crate) fn end_client(&self) {
         self.clients.fetch_sub(1, Ordering::SeqCst);
         self.end_stream();
     }
 
-    /// A feed or a client has ended.
+    /// Notes that a feed or a client has ended.
     pub(crate) fn end_stream(&self) {
         self.left.fetch_sub(1, Ordering::SeqCst);
         self.teller.wake_taker();
@@ -183,7 +190,7 @@ impl<'a> Run<'a> {
         self.left.load(Ordering::SeqCst) == 0
     }
 
-    /// Whether no feed's FIFO is read on after its writer left: all clients have ended, or the run ends.
+    /// Whether no feed's FIFO is read on after its writer left, because all clients have ended or the run ends.
     pub(crate) fn is_closing(&self) -> bool {
         self.is_stopped() || self.clients.load(Ordering::SeqCst) == 0
     }
@@ -215,7 +222,7 @@ impl<'a> Run<'a> {
         unreachable!()
     }
 
-    /// All feeds and clients have ended.
+    /// Notes that all feeds and clients have ended.
     pub(crate) fn finish(&self) {
         self.is_done.store(true, Ordering::SeqCst);
         self.end_bell.unpark();

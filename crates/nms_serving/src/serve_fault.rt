@@ -10,8 +10,8 @@ use nms_quote::Feed;
 use std::fmt;
 use thiserror::Error;
 
-/// Why a run ended early. The tape's file has whole batches, in order; only the last write to a
-/// stream that fails may have left a prefix.
+/// Why a run ended early. The tape's file has complete batches, in order. Only the last write to a stream that fails may have
+/// left a prefix.
 #[derive(Clone, Copy, Debug, PartialEq, Eq, Error)]
 pub enum ServeFault {
     /// E1: a stream could not be opened.
@@ -62,7 +62,7 @@ impl ServeFault {
         }
     }
 
-    /// The exit status of a program that it ends: 1 for a stream, 5 for memory, 6 for records, 7 for the board.
+    /// The exit status of a program that ends with this fault: 1 for a stream, 5 for memory, 6 for records, 7 for the board.
     pub fn status(self) -> u8
         ensures { result ≡ status_of self }
     {
@@ -80,7 +80,7 @@ impl ServeFault {
         }
     }
 
-    /// Whether it is the fault of a stream that has another end: that of a feed or a client.
+    /// Whether the fault is of a stream that has another end, which is one of a feed or a client.
     pub(crate) fn is_of_other_end(self) -> bool {
         match self {
             ServeFault::NotOpened(stream)

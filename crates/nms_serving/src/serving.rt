@@ -1,10 +1,11 @@
-//! The threads of a run: one for each feed and each client, and the caller's, which takes.
+//! The threads of a run: one for each feed and each client, and the caller's thread, which takes.
 ghost use Rattle.std.specs.Prelude.{◌≡◌, ◌<◌, ◌≤◌, ℕ, [], length, slice_index_or, IfErr};
 ghost use Rattle.std.specs.List.{AllByRecursion};
 ghost use Rattle.nms_quote.specs.Roster.{sizes_of};
 ghost use Rattle.nms_serving.specs.declared.TheConstants.{MOST_EPOCHS};
 ghost use Rattle.nms_versions.specs.Taped.{Knowing, tape_of};
 
+use crate::beside::Beside;
 use crate::client::{Client, ClientEnd, ClientStreams, serve_client};
 use crate::door::Door;
 use crate::epochs::{EpochFiles, Epochs, NextEpoch, hand_over};
@@ -15,7 +16,7 @@ use crate::run::Run;
 use crate::serve_fault::ServeFault;
 use crate::taking::{Doors, take_all};
 use crate::text::Text;
-use crate::watching::watch_feeds;
+use crate::watching::watch;
 use nms_answers::LaterDesks;
 use nms_board::Boards;
 use nms_feed::{Sender, Taker, open_lane};
@@ -27,7 +28,7 @@ use std::sync::Wait;
 use std::thread;
 use std::thread::{JoinHandle, Scope, Threads};
 
-/// The means of every thread of a run.
+/// The means that every thread of a run uses.
 #[derive(Drop)]
 pub struct Means<'a, R> {
     pub rt: &'a R,
@@ -36,14 +37,14 @@ pub struct Means<'a, R> {
     pub run: &'a Run<'a>,
 }
 
-/// The ends of a board that was opened: its threads send, take and look by them.
+/// The ends of a board that was opened, by which its threads send, take and look.
 #[derive(Drop)]
 pub(crate) struct Ends {
     /// A sender for each feed, in order.
     senders: Vec<Sender>,
     /// The other end of the senders' lane.
     taker: Taker,
-    /// A desk for each client, or more.
+    /// At least one desk for each client.
     desks: Vec<Desk>,
 }
 
@@ -52,18 +53,18 @@ struct FirstEpoch<'a, X: Write, Y: Write> {
     keeper: Keeper<'a, X, Y>,
     /// Its number.
     epoch: u64,
-    /// A desk of it for each client, or more, if clients go over to it; they begin on it if there are none.
+    /// At least one desk for each client, if the clients go over to this epoch. If there are none, the clients begin on it.
     desks: Vec<Desk>,
 }
 
-/// What an earlier run has left, from which a run goes on.
+/// What an earlier run has left, with which a new run goes on.
 #[derive(Drop)]
 pub struct GoingOn<'a> {
     /// The board of all that was published.
     pub board: &'a Boards,
     /// The epoch in which the run goes on: 1 or more.
     pub epoch: u64,
-    /// What is reported of it, up to the number of its opening changes.
+    /// The text that is reported, up to the number of opening changes.
     pub report: Text,
 }
 
@@ -82,16 +83,22 @@ pub struct Served {
     pub epochs: u64,
 }
 
-/// Opens a board, and serves feeds and clients, each in a thread of its own, until all of them have ended or a fault ends the
-/// run (`Run::fault`). What the feeds send is taken, written to the tape's file and published meanwhile. If the tape has as
-/// many changes as it may, a new epoch goes on in files of its own. All threads have ended when it returns.
+/// Opens a board, and serves feeds and clients, each in its own thread. This goes on until all of them have ended or a fault
+/// ends the run (`Run::fault`). Meanwhile what the feeds send is taken, written to the tape's file and published. If the tape
+/// has as many changes as it may, a new epoch goes on in its own files. All threads have ended when it returns.
 ///
 /// There is a door for each feed of the setup, in order; clients beyond the desks of the setup are not served. `tape` and
 /// `lengths` are the files of the first epoch, `files` opens those of later ones. `NotBegun` if no board was opened. It returns
 /// no other fault: those of a run that began are `Run::fault`.
-pub fn serve<R: Threads + Wait + Sync, X: Write + Drop, Y: Write + Drop, F: EpochFiles<X, Y>>(
+pub fn serve<
+    R: Threads + Wait + Sync,
+    X: Write + Drop,
+    Y: Write + Drop,
+    F: EpochFiles<X, Y>,
+    O: Beside + Sync,
+>(
     means: &Means<'_, R>,
-    doors: &Doors<'_>,
+    doors: &Doors<'_, O>,
     tape: X,
     lengths: Y,
     files: &F,
@@ -120,17 +127,23 @@ pub fn serve<R: Threads + Wait + Sync, X: Write + Drop, Y: Write + Drop, F: Epoc
         epoch: 0,
         desks: Vec::new(means.alloc),
     };
-    serve_board::<Brand, R, X, Y, F>(means, doors, files, first, ends)
+    serve_board::<Brand, R, X, Y, F, O>(means, doors, files, first, ends)
 }
 
-/// As `serve`, from the board that an earlier run has left (`left_board`). Its epoch's files are opened by `files`, and begin with
-/// the opening changes of the board, written and published (`Keeper::begin`). That is reported. Each client goes over to the epoch
-/// at its first request, as from an earlier one.
+/// As `serve`, but from the board that an earlier run has left (`left_board`). `files` opens the epoch's files. They begin with
+/// the opening changes of the board, written and published (`Keeper::begin`), which is reported. Each client goes over to the
+/// epoch at its first request, as from an earlier one.
 ///
 /// `NotBegun` if no board was opened; or the fault of the epoch's files, or of writing its opening changes.
-pub fn resume<R: Threads + Wait + Sync, X: Write + Drop, Y: Write + Drop, F: EpochFiles<X, Y>>(
+pub fn resume<
+    R: Threads + Wait + Sync,
+    X: Write + Drop,
+    Y: Write + Drop,
+    F: EpochFiles<X, Y>,
+    O: Beside + Sync,
+>(
     means: &Means<'_, R>,
-    doors: &Doors<'_>,
+    doors: &Doors<'_, O>,
     left: GoingOn<'_>,
     files: &F,
 ) -> Result<Served, ServeFault>
@@ -147,7 +160,7 @@ pub fn resume<R: Threads + Wait + Sync, X: Write + Drop, Y: Write + Drop, F: Epo
         return Err(ServeFault::NotBegun);
     };
     let _limit = setup.tape_limit();
-    // On the desks of this one, which show nothing, the clients stand until they go over.
+    // The clients are on the desks of this epoch, which show nothing, until they go over.
     let Ok((ended, before)) = open_tape(means.alloc, means.rt, setup) else {
         return Err(ServeFault::NotBegun);
     };
@@ -186,19 +199,21 @@ pub fn resume<R: Threads + Wait + Sync, X: Write + Drop, Y: Write + Drop, F: Epo
         epoch,
         desks,
     };
-    serve_board::<Brand, R, X, Y, F>(means, doors, files, first, ends)
+    serve_board::<Brand, R, X, Y, F, O>(means, doors, files, first, ends)
 }
 
-/// Serves feeds and clients on a board that was just opened, from an epoch on.
+/// Serves feeds and clients on a board that was just opened, from an epoch on. It makes only this call, since the prover's search for
+/// what may go from thread to thread reads all that is around a call.
 fn serve_board<
     B: Sizing + Send + Sync,
     R: Threads + Wait + Sync,
     X: Write + Drop,
     Y: Write + Drop,
     F: EpochFiles<X, Y>,
+    O: Beside + Sync,
 >(
     means: &Means<'_, R>,
-    doors: &Doors<'_>,
+    doors: &Doors<'_, O>,
     files: &F,
     first: FirstEpoch<'_, X, Y>,
     ends: Ends,
@@ -212,12 +227,39 @@ fn serve_board<
     requires sizes { (k : ℕ) (d : Knowing) → k < length ends.desks.items → (slice_index_or ends.desks.items k d).sizes ≡ sizes_of means.now.run.now.setup.now.roster }
     ensures begun { IfErr result (λ fault. fault ≡ ServeFault.NotBegun) }
 {
+    serve_on::<HouseDesk<B>, R, X, Y, F, O>(means, doors, files, first, ends)
+}
+
+/// As `serve_board`, on desks of any type that the run's roster has.
+fn serve_on<
+    H: House + Send,
+    R: Threads + Wait + Sync,
+    X: Write + Drop,
+    Y: Write + Drop,
+    F: EpochFiles<X, Y>,
+    O: Beside + Sync,
+>(
+    means: &Means<'_, R>,
+    doors: &Doors<'_, O>,
+    files: &F,
+    first: FirstEpoch<'_, X, Y>,
+    ends: Ends,
+) -> Result<Served, ServeFault>
+    requires house { H.sizes ≡ sizes_of means.now.run.now.setup.now.roster }
+    requires keeper { first.keeper.publisher.sizes ≡ H.sizes }
+    requires within { first.epoch ≤ MOST_EPOCHS }
+    requires opening { (k : ℕ) (d : Knowing) → k < length first.desks.items → (slice_index_or first.desks.items k d).opening ≡ first.keeper.publisher.opening }
+    requires laid { (k : ℕ) (d : Knowing) → k < length first.desks.items → (slice_index_or first.desks.items k d).sizes ≡ H.sizes }
+    requires fresh { AllByRecursion (λ sender. sender.sent ≡ []) ends.senders.items }
+    requires sizes { (k : ℕ) (d : Knowing) → k < length ends.desks.items → (slice_index_or ends.desks.items k d).sizes ≡ sizes_of means.now.run.now.setup.now.roster }
+    ensures begun { IfErr result (λ fault. fault ≡ ServeFault.NotBegun) }
+{
     let FirstEpoch {
         mut keeper,
         epoch,
         desks,
     } = first;
-    let slots: Vec<Slot<HouseDesk<B>>> = match slots_of(means.alloc, doors.clients.len()) {
+    let slots: Vec<Slot<H>> = match slots_of(means.alloc, doors.clients.len()) {
         Ok(slots) => slots,
         Err(_) => {
             keeper.end(means.rt);
@@ -229,6 +271,7 @@ fn serve_board<
         slots: &slots,
     };
     hand_over(means.rt, &slots, epoch, &mut keeper, desks);
+    means.run.progress.note(epoch, keeper.changes(), 0);
     let mut epochs = Epochs::new(keeper, epoch);
     let served = serve_epochs(means, doors, &next, &mut epochs, ends);
     epochs.end(means.rt);
@@ -251,9 +294,10 @@ fn serve_epochs<
     X: Write + Drop,
     Y: Write + Drop,
     F: EpochFiles<X, Y>,
+    O: Beside + Sync,
 >(
     means: &Means<'_, R>,
-    doors: &Doors<'_>,
+    doors: &Doors<'_, O>,
     next: &NextEpoch<'_, F, H>,
     epochs: &mut Epochs<'_, H, X, Y>,
     ends: Ends,
@@ -286,10 +330,11 @@ fn run_threads<
     X: Write + Drop,
     Y: Write + Drop,
     F: EpochFiles<X, Y>,
+    O: Beside + Sync,
 >(
     scope: &'s Scope<'s, E>,
     means: &'s Means<'s, R>,
-    doors: &'s Doors<'s>,
+    doors: &'s Doors<'s, O>,
     next: &'s NextEpoch<'s, F, H>,
     epochs: &mut Epochs<'_, H, X, Y>,
     ends: Ends,
@@ -306,9 +351,9 @@ fn run_threads<
     let mut feeds = Vec::new(means.alloc);
     let mut clients = Vec::new(means.alloc);
     // All clients have begun before the first feed checks whether they have ended.
-    start_clients(scope, means, doors.clients, next.slots, desks, &mut clients);
+    start_clients(scope, means, doors, next.slots, desks, &mut clients);
     start_feeds(scope, means, doors.feeds, senders, &mut feeds);
-    start_watch(scope, means);
+    start_watch(scope, means, doors, next.slots);
     if !means.run.is_stopped() {
         means.run.teller.keep(means.rt, Text::of("serving"));
     }
@@ -363,10 +408,10 @@ fn start_feed<'s, E, R: Wait + Sync>(
 }
 
 /// Starts a thread for each client.
-fn start_clients<'s, E, H: House + Send, R: Threads + Wait + Sync>(
+fn start_clients<'s, E, H: House + Send, R: Threads + Wait + Sync, O: Beside + Sync>(
     scope: &'s Scope<'s, E>,
     means: &'s Means<'s, R>,
-    clients: &'s [ClientStreams<'s>],
+    doors: &'s Doors<'s, O>,
     slots: &'s [Slot<H>],
     desks: Vec<Desk>,
     handles: &mut Vec<JoinHandle<ClientEnd>>,
@@ -374,10 +419,12 @@ fn start_clients<'s, E, H: House + Send, R: Threads + Wait + Sync>(
     requires house { H.sizes ≡ sizes_of means.now.run.now.setup.now.roster }
     requires sizes { (k : ℕ) (d : Knowing) → k < length desks.items → (slice_index_or desks.items k d).sizes ≡ sizes_of means.now.run.now.setup.now.roster }
 {
+    let own = doors.beside;
+    let recording = own.recording();
     let mut number = 0u8;
     for desk in desks {
         let place = usize::from(number);
-        let (Some(streams), Some(slot)) = (clients.get(place), slots.get(place)) else {
+        let (Some(streams), Some(slot)) = (doors.clients.get(place), slots.get(place)) else {
             return;
         };
         let Some(next) = number.checked_add(1) else {
@@ -388,7 +435,12 @@ fn start_clients<'s, E, H: House + Send, R: Threads + Wait + Sync>(
         let client = Client {
             number,
             streams,
-            later: SlotOf { rt: means.rt, slot },
+            later: SlotOf {
+                means,
+                slot,
+                number,
+                recording,
+            },
             tally: &slot.tally,
         };
         start_client(scope, means, client, desk, handles);
@@ -417,17 +469,28 @@ fn start_client<'s, E, L: LaterDesks + Send + Drop + 's, R: Threads + Wait + Syn
     keep(run, started.ok(), handles);
 }
 
-/// Starts the thread that reports silent feeds, if the run has one. The scope waits for its end.
-fn start_watch<'s, E, R: Wait + Sync>(scope: &'s Scope<'s, E>, means: &'s Means<'s, R>) {
-    let Some(seconds) = means.run.ways.stale else {
+/// Starts the thread that watches the run, if there is something to watch for. The scope waits for its end.
+fn start_watch<'s, E, H: House + Send, R: Wait + Sync, O: Beside + Sync>(
+    scope: &'s Scope<'s, E>,
+    means: &'s Means<'s, R>,
+    doors: &'s Doors<'s, O>,
+    slots: &'s [Slot<H>],
+) {
+    let own = doors.beside;
+    let (signs, disk) = (own.signs(), own.disk());
+    let is_idle = means.run.ways.stale.is_none() && disk.is_none() && signs.status.is_none();
+    if is_idle && signs.ready.is_none() {
         return;
-    };
-    if scope.spawn(move || watch_feeds(means, seconds)).is_err() {
+    }
+    if scope
+        .spawn(move || watch(means, signs, disk, slots))
+        .is_err()
+    {
         means.run.fail_to_start();
     }
 }
 
-/// Keeps the handle of a thread that was started. If it was not, or if out of memory for its handle, the run ends.
+/// Keeps the handle of a thread that was started. If it was not started, or there is no memory for its handle, the run ends.
 fn keep<T: Drop>(run: &Run<'_>, started: Option<JoinHandle<T>>, handles: &mut Vec<JoinHandle<T>>) {
     match started {
         Some(handle) => if handles.push(handle).is_err() {

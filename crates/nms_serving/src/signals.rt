@@ -4,34 +4,34 @@ use std::fs;
 /// The bits of INT and TERM in a mask of signals: a signal's number less one.
 const ENDING: u64 = 0x4002;
 
-/// The signals that ask the program to end. It was started with them blocked, so they wait until someone looks.
+/// The signals that ask the program to end. The program was started with them blocked, so they wait until it looks for them.
 #[derive(Clone, Copy)]
 pub(crate) struct Signals {
-    /// The bits of those that were blocked and not ignored when the program began.
+    /// The bits of the signals that were blocked and not ignored when the program began.
     awaited: u64,
 }
 
 impl Signals {
-    /// Those of this process. None if it blocks none: the system ends it then.
+    /// The signals of this process. There are none if it blocks none: then the system ends it.
     pub(crate) fn of_process(host: &HostRuntime) -> Self {
         Signals {
             awaited: ENDING & mask_in(host, b"SigBlk:") & !mask_in(host, b"SigIgn:"),
         }
     }
 
-    /// Whether any can come.
+    /// Whether any signal can come.
     pub(crate) fn can_come(self) -> bool {
         self.awaited != 0
     }
 
-    /// Whether one has come.
+    /// Whether a signal has come.
     pub(crate) fn has_come(self, host: &HostRuntime) -> bool {
         self.can_come() && self.awaited & mask_in(host, b"ShdPnd:") != 0
     }
 }
 
-/// A mask of signals in the process's status: after `SigBlk:` stand the blocked ones, after `SigIgn:` the ignored ones, after
-/// `ShdPnd:` those that were sent and wait. No signals if it can't be read.
+/// A mask of signals in the process's status. The blocked ones follow `SigBlk:`, the ignored ones `SigIgn:`, and those that
+/// were sent and wait `ShdPnd:`. No signals if it can't be read.
 fn mask_in(host: &HostRuntime, name: &[u8]) -> u64 {
     let Ok(text) = fs::read(host, "/proc/self/status") else {
         return 0;
@@ -44,7 +44,7 @@ fn mask_in(host: &HostRuntime, name: &[u8]) -> u64 {
     0
 }
 
-/// The last 64 bits of a number in hexadecimal digits; other bytes are passed over.
+/// The last 64 bits of a number in hexadecimal digits. Other bytes are skipped.
 fn mask_of(digits: &[u8]) -> u64 {
     let mut mask = 0u64;
     for byte in digits {

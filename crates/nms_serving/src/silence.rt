@@ -1,11 +1,11 @@
-//! When a feed is reported as silent, and when it is reported that it sends again (specs/Silences).
+//! When a feed is reported as silent, and when it is reported as sending again (specs/Silences).
 ghost use Rattle.std.specs.Prelude.{◌≡◌, ◌+◌, false, nat_le};
 ghost use Rattle.nms_serving.specs.Silences.{after_look, notice_of};
 
-/// What is reported of a feed.
+/// What is reported about a feed.
 #[derive(Clone, Copy, Debug, PartialEq, Eq)]
 pub enum Notice {
-    /// No record came for as long as the limit.
+    /// No record came during the time of the limit.
     Silent,
     /// A record came after a silence that was reported.
     SpeaksAgain,
@@ -14,14 +14,14 @@ pub enum Notice {
 /// How long a feed has been silent, in milliseconds of the clock.
 #[derive(Clone, Copy)]
 pub(crate) struct Silence {
-    /// When a record was last noticed; at first when the run began.
+    /// When a record was last noticed. At first it is when the run began.
     pub(crate) since: u64,
-    /// The silence was reported.
+    /// Whether the silence was reported.
     pub(crate) is_reported: bool,
 }
 
 impl Silence {
-    /// From this time on.
+    /// A silence that begins at this time.
     pub(crate) fn new(since: u64) -> Self
         ensures { result ≡ record { since = since; is_reported = false } }
     {
@@ -31,7 +31,8 @@ impl Silence {
         }
     }
 
-    /// Looks at the feed, and returns the report, if any: a silence once, when it has lasted `most` milliseconds, and its end.
+    /// Looks at the feed, and returns the report, if any. A silence is reported once, when it has lasted `most` milliseconds,
+    /// and so is its end.
     pub(crate) fn look(&mut self, now: u64, has_spoken: bool, most: u64) -> Option<Notice>
         ensures notice { result ≡ notice_of self.old now has_spoken most }
         ensures after { self.new ≡ after_look self.old now has_spoken most }

@@ -18,14 +18,19 @@ pub enum Stream {
     Tape,
     /// The file of the lengths that were published.
     Lengths,
+    /// The file of the times of the changes.
+    Times,
+    /// The file of the requests and answers.
+    Record,
 }
 
 impl Stream {
-    /// Whether another program has its other end: it is that of a feed or a client, and no file of the tape.
+    /// Whether another program has the stream's other end. It has if the stream is one of a feed or a client, and no file of
+    /// the tape.
     pub(crate) fn has_other_end(self) -> bool {
         match self {
             Stream::Feed(_) | Stream::Requests(_) | Stream::Answers(_) => true,
-            Stream::Tape | Stream::Lengths => false,
+            Stream::Tape | Stream::Lengths | Stream::Times | Stream::Record => false,
         }
     }
 }
@@ -38,6 +43,8 @@ impl fmt::Display for Stream {
             Stream::Answers(client) => write!(f, "the answers to client {client}"),
             Stream::Tape => f.write_str("the tape"),
             Stream::Lengths => f.write_str("the file of published lengths"),
+            Stream::Times => f.write_str("the file of times"),
+            Stream::Record => f.write_str("the record of answers"),
         }
     }
 }

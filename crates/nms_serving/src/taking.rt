@@ -14,25 +14,28 @@ use std::thread::Threads;
 
 /// The paths that the threads of a run open.
 #[derive(Clone, Copy)]
-pub struct Doors<'a> {
-    /// Those of the feeds, in order of feed.
+pub struct Doors<'a, O> {
+    /// The paths of the feeds, in order of feed.
     pub feeds: &'a [Door<'a>],
-    /// Those of the clients.
+    /// The streams of the clients.
     pub clients: &'a [ClientStreams<'a>],
+    /// What was asked for next to the streams.
+    pub beside: &'a O,
 }
 
-/// Takes the changes that the feeds send, and publishes them after each 64 and when none is waiting, until all feeds and
-/// clients have ended. Held requests go on once the first change of each feed is published. After a fault it takes changes and
-/// drops them, so that no feed waits for room.
+/// Takes the changes that the feeds send until all feeds and clients have ended. It publishes them after each 64, and when none
+/// is waiting. Held requests go on once the first change of each feed is published. After a fault it takes changes and drops
+/// them, so that no feed waits for room.
 pub(crate) fn take_all<
     R: Threads + Wait + Sync,
     X: Write + Drop,
     Y: Write + Drop,
     F: EpochFiles<X, Y>,
     H: House,
+    O,
 >(
     means: &Means<'_, R>,
-    doors: &Doors<'_>,
+    doors: &Doors<'_, O>,
     next: &NextEpoch<'_, F, H>,
     epochs: &mut Epochs<'_, H, X, Y>,
     taker: &mut Taker,
@@ -42,7 +45,7 @@ pub(crate) fn take_all<
     let run = means.run;
     let mut are_woken = false;
     for _ in means.rt.forever() {
-        // The run is checked before the lane: what a stream sent before its end is still found.
+        // The run is checked before the lane, so that what a stream sent before its end is still found.
         let is_over = run.is_over();
         if run.is_gate_shut() && run.have_feeds_begun() {
             take_waiting(means, next, epochs, taker);
@@ -65,7 +68,7 @@ pub(crate) fn take_all<
     unreachable!()
 }
 
-/// Takes all that was sent before the call, and publishes it: what the lane holds, which has as many places as the queue.
+/// Takes all that was sent before the call, and publishes it. That is what the lane holds, which has as many places as the queue.
 fn take_waiting<R: Wait, X: Write + Drop, Y: Write + Drop, F: EpochFiles<X, Y>, H: House>(
     means: &Means<'_, R>,
     next: &NextEpoch<'_, F, H>,
@@ -96,7 +99,7 @@ fn take_one<R: Wait, X: Write + Drop, Y: Write + Drop, F: EpochFiles<X, Y>, H: H
     };
     if !means.run.is_failed() {
         match epochs.take_in(means, next, &change) {
-            Ok(()) => {}
+            Ok(()) => note(means, epochs),
             Err(fault) => means.run.fail(fault),
         }
     }
@@ -112,13 +115,23 @@ fn publish<R: Wait, X: Write, Y: Write, H: House>(
         return;
     }
     match epochs.publish(means.rt) {
-        Ok(()) => {}
+        Ok(()) => note(means, epochs),
         Err(fault) => means.run.fail(fault),
     }
 }
 
+/// Notes how far the board is, if all that was taken is published, so once a batch.
+fn note<R, X: Write, Y: Write, H: House>(means: &Means<'_, R>, epochs: &Epochs<'_, H, X, Y>) {
+    if let Some(version) = epochs.version() {
+        means
+            .run
+            .progress
+            .note(epochs.number(), version, epochs.changes());
+    }
+}
+
 /// Wakes all threads that wait at a FIFO. They find that the run has ended.
-fn wake_all<R: Threads>(means: &Means<'_, R>, doors: &Doors<'_>) {
+fn wake_all<R: Threads, O>(means: &Means<'_, R>, doors: &Doors<'_, O>) {
     for door in doors.feeds {
         wake(means, door, Side::Reads);
     }

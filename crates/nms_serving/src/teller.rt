@@ -1,5 +1,6 @@
 //! How a run reports what happens, and how the process learns that it may end.
 use crate::REFUSED_STATUS;
+use crate::moment::Moment;
 use crate::report::Dropped;
 use crate::signals::Signals;
 use crate::text::Text;
@@ -14,25 +15,28 @@ use std::time::Duration;
 
 /// How many reports may wait to be printed; further ones are dropped and counted. This product's own rule.
 const MOST_WAITING: usize = 64;
-/// Room behind them for what is never dropped: that the run serves, the ends of 8 feeds and 255 clients, and of the tape; and
-/// for reports that several threads make at once.
+/// Room after them for what is never dropped: that the run serves, the ends of 8 feeds and 255 clients, and of the tape. There
+/// is also room for reports that several threads make at once.
 const MOST_KEPT: usize = 384;
-/// How often the process looks whether all is printed and all threads have ended, and how long it rests between two looks, in
-/// milliseconds: a second in all. This product's own rule.
+/// How often the process looks whether all is printed and all threads have ended, and how many milliseconds pass between two
+/// looks. Together they are a second. This product's own rule.
 const LOOKS: u32 = 200;
 
 const REST: u64 = 5;
-/// How long the process rests between two looks for a signal, in milliseconds. This product's own rule.
+/// How many milliseconds pass between two looks for a signal. This product's own rule.
 const SIGNAL_REST: u64 = 200;
 
-/// The lines that a run prints on standard error, and its exit status. One thread prints: no other waits for standard error.
-/// Another waits for the status, and ends the process at most a second later, whatever does not end by then.
+/// The lines that a run prints on standard error, and its exit status. Only one thread prints, so no other waits for standard
+/// error. Another thread waits for the status, and ends the process at most a second later, even if a thread has not ended by
+/// then.
 #[derive(Drop)]
 pub struct Teller {
+    /// The clock, if each line begins with its time.
+    clock: Option<HostRuntime>,
     waiting: ArrayQueue<Text>,
     /// The line of the fault that ends the run. It is set without waiting, by any thread.
     fault: OnceLock<Text>,
-    /// How many lines were to be printed, and how many were.
+    /// How many lines were to be printed, and how many were printed.
     told: AtomicU64,
     printed: AtomicU64,
     /// How many reports were dropped since the last one that was printed.
@@ -40,22 +44,23 @@ pub struct Teller {
     /// Wakes the thread that prints.
     bell: Parker,
     status: OnceLock<u8>,
-    /// All threads of the run have ended.
+    /// Whether all threads of the run have ended.
     is_over: AtomicBool,
     /// Wakes the thread that waits for the status.
     end_bell: Parker,
-    /// The run was asked to end.
+    /// Whether the run was asked to end.
     is_asked: AtomicBool,
-    /// A record of a feed was refused.
+    /// Whether a record of a feed was refused.
     has_refused: AtomicBool,
     /// Wakes the thread that takes.
     taker_bell: Parker,
 }
 
 impl Teller {
-    /// With nothing to be printed, and no status.
-    pub fn new(alloc: Global) -> Result<Self, AllocError> {
+    /// A teller with nothing to print, and no status. Each line begins with its time, if there is a clock.
+    pub fn new(alloc: Global, clock: Option<HostRuntime>) -> Result<Self, AllocError> {
         Ok(Teller {
+            clock,
             waiting: ArrayQueue::new(alloc, MOST_WAITING + MOST_KEPT)?,
             fault: OnceLock::new(),
             told: AtomicU64::new(0),
@@ -71,7 +76,15 @@ impl Teller {
         })
     }
 
-    /// Prints a report soon. If as many wait as may, it is dropped and counted.
+    /// The time that a line begins with, if any.
+    fn now(&self) -> Option<Moment> {
+        match &self.clock {
+            Some(clock) => Moment::now(clock),
+            None => None,
+        }
+    }
+
+    /// Prints a report soon. If the most reports wait already, it is dropped and counted.
     pub(crate) fn tell<R: Wait>(&self, rt: &R, report: Text) {
         if self.waiting.len(rt) < MOST_WAITING {
             self.keep(rt, report);
@@ -83,7 +96,7 @@ impl Teller {
     /// Prints a report soon, one of the few that are never dropped.
     pub fn keep<R: Wait>(&self, rt: &R, report: Text) {
         self.told.fetch_add(1, Ordering::SeqCst);
-        if self.waiting.push(rt, report).is_err() {
+        if self.waiting.push(rt, report.told_at(self.now())).is_err() {
             self.dropped.fetch_add(1, Ordering::SeqCst);
             self.printed.fetch_add(1, Ordering::SeqCst);
         }
@@ -93,20 +106,20 @@ impl Teller {
     /// Prints the line of the fault that ends the run, and gives the process its status. Only the first call counts.
     pub fn fail(&self, status: u8, line: Text) {
         self.told.fetch_add(1, Ordering::SeqCst);
-        if self.fault.try_set(line).is_err() {
+        if self.fault.try_set(line.told_at(self.now())).is_err() {
             self.printed.fetch_add(1, Ordering::SeqCst);
         }
         self.bell.unpark();
         self.set_status(status);
     }
 
-    /// All threads of the run have ended. The status is that of its fault, if there was one.
+    /// Notes that all threads of the run have ended. The status is that of its fault, if there was one.
     pub fn end(&self, status: u8) {
         self.is_over.store(true, Ordering::SeqCst);
         self.set_status(status);
     }
 
-    /// A record of a feed was refused.
+    /// Notes that a record of a feed was refused.
     pub(crate) fn note_refused(&self) {
         if !self.has_refused.load(Ordering::SeqCst) {
             self.has_refused.store(true, Ordering::SeqCst);
@@ -133,7 +146,7 @@ impl Teller {
         self.is_asked.load(Ordering::SeqCst)
     }
 
-    /// There is something for the taker to do.
+    /// Wakes the taker, because there is something for it to do.
     pub(crate) fn wake_taker(&self) {
         self.taker_bell.unpark();
     }
@@ -180,13 +193,13 @@ impl Teller {
     fn print_dropped<W: Write>(&self, errors: &mut W) {
         let dropped = self.dropped.swap(0, Ordering::SeqCst);
         if dropped > 0 {
-            Text::of(Dropped(dropped)).print(errors);
+            Text::of(Dropped(dropped)).told_at(self.now()).print(errors);
         }
     }
 
     /// Waits until the run has a status, and returns it. All lines were printed and all threads have ended by then, or a second
-    /// has passed since. If the process blocks the signals that ask it to end, the run is asked to end when one comes: all has
-    /// ended by then, or a second has passed since.
+    /// has passed since. If the process blocks the signals that ask it to end, one of them makes this ask the run to end. Then
+    /// too everything has ended, or a second has passed.
     pub fn wait_for_end<R: Wait>(&self, rt: &R, host: &HostRuntime) -> u8 {
         let signals = Signals::of_process(host);
         for _ in rt.forever() {
@@ -202,7 +215,7 @@ impl Teller {
         unreachable!()
     }
 
-    /// Sleeps until the run has a status. If a signal can come, no longer than until the next look for one.
+    /// Sleeps until the run has a status. If a signal can come, it sleeps only until the next look for one.
     fn rest<R: Wait>(&self, rt: &R, signals: Signals) {
         if signals.can_come() {
             self.end_bell
@@ -222,7 +235,7 @@ impl Teller {
         }
     }
 
-    /// Whether all lines are printed. The printed ones are read first: none was printed before it was told.
+    /// Whether all lines are printed. The count of printed lines is read first, because no line was printed before it was counted.
     fn is_all_printed(&self) -> bool {
         let printed = self.printed.load(Ordering::SeqCst);
         self.told.load(Ordering::SeqCst) == printed

@@ -13,8 +13,8 @@ use std::time::Clock;
 /// The most reports about a feed's records and writers in a second. This product's own rule.
 const MOST_REPORTS: u64 = 10;
 
-/// Wakes the taker for each change of a feed that was sent, notes that the feed sends, and reports refused records and writers
-/// that left, at most 10 in a second of the clock. No proof rests on it.
+/// Wakes the taker for each change of a feed that was sent, and notes that the feed sends. It reports refused records and
+/// writers that left, at most 10 in a second of the clock. No proof relies on it.
 #[derive(Drop)]
 pub(crate) struct Watcher<'a, R> {
     rt: &'a R,
@@ -23,12 +23,12 @@ pub(crate) struct Watcher<'a, R> {
     /// The second of the last report, and how many there were in that second.
     second: AtomicU64,
     reports: AtomicU64,
-    /// After how many records it was last reported that the writer had left; `u64::MAX` before.
+    /// After how many records it was last reported that the writer had left; `u64::MAX` before the first report.
     left: AtomicU64,
 }
 
 impl<'a, R: Wait> Watcher<'a, R> {
-    /// For a feed that sent nothing yet.
+    /// A watcher for a feed that has sent nothing yet.
     pub(crate) fn new(rt: &'a R, host: &'a HostRuntime, run: &'a Run<'a>) -> Self {
         Watcher {
             rt,
@@ -40,7 +40,7 @@ impl<'a, R: Wait> Watcher<'a, R> {
         }
     }
 
-    /// The feed has no writer now. That is reported, unless it was and no record came since.
+    /// Notes that the feed has no writer now. That is reported, unless it was reported already and no record came since.
     pub(crate) fn note_left(&self, so_far: FeedEnd) {
         if self.left.load(Ordering::SeqCst) == so_far.counts.records || !self.may_report() {
             return;
@@ -69,7 +69,9 @@ impl<R: Wait + Sync> FeedWatch for Watcher<'_, R> {
     }
 
     fn refused(&self, feed: Feed, number: u64, fault: LineFault, record: &ByteRecord) {
-        self.run.voices.of(feed).speak();
+        let voice = self.run.voices.of(feed);
+        voice.speak();
+        voice.count_refused();
         self.run.teller.note_refused();
         if self.may_report() {
             self.run

@@ -9,7 +9,7 @@ use super::option_word::{OPTIONS, OptionWord};
 use clap::{Arg, Command};
 use std::alloc::{AllocError, Global};
 
-/// The whole command line.
+/// The complete command line.
 pub(crate) fn serve_command<'a>(alloc: Global) -> Result<Command<'a>, AllocError>
     ensures { IfOk result (λ command. app_of command ≡ serve) }
 {
@@ -19,7 +19,7 @@ pub(crate) fn serve_command<'a>(alloc: Global) -> Result<Command<'a>, AllocError
     }
 }
 
-/// A command that takes these options too.
+/// A command that takes these options in addition.
 fn with_options<'a>(
     alloc: Global,
     command: Command<'a>,

@@ -1,4 +1,4 @@
-//! The words of the command line, read as a request.
+//! Reading the arguments of the command line as a request.
 ghost use Rattle.std.specs.Prelude.{◌≡◌, ◌==◌, ◌||◌, ◌∷◌, ◌++◌, OnOk, [], map, Some, None, IfOk, IfErr, MatchResult, option_map};
 ghost use Rattle.std.specs.Char.{is_ascii_digit};
 ghost use Rattle.std.specs.List.{list_all, list_any};
@@ -18,7 +18,7 @@ use std::alloc::{AllocError, Global};
 /// The most seconds of `--stale`: a day. This product's own rule.
 const MOST_SECONDS: u32 = 86_400;
 
-/// Reads the words that follow the program's name.
+/// Reads the arguments that follow the program's name.
 ///
 /// `Parser` has the parser's text: a fault, or the help or the version that was asked for. The other faults are those that the
 /// parser does not see. `NoMemory` may replace any answer.
@@ -39,7 +39,7 @@ pub fn read_words<'a>(alloc: Global, words: &'a [&'a str]) -> Result<Request, Wo
     }
 }
 
-/// The parser's text, or that memory ran out.
+/// The parser's text, or that it was out of memory.
 fn fault_of(alloc: Global, error: &Error) -> WordsFault
     ensures memory { kind_of error.now ≡ ErrorKind.OutOfMemory → result ≡ WordsFault.NoMemory }
     ensures refused { IsParserFault (kind_of error.now ∷ []) result }
@@ -57,7 +57,7 @@ fn fault_of(alloc: Global, error: &Error) -> WordsFault
     }
 }
 
-/// Whether the words ask for help, or for the version.
+/// Whether the arguments ask for help, or for the version.
 fn is_help(kind: ErrorKind) -> bool
     ensures { result ≡ asks_for_help kind }
 {
@@ -88,6 +88,13 @@ fn request_in(alloc: Global, matches: &ArgMatches<'_>) -> Result<Request, WordsF
         wait: is_flagged(matches, "wait"),
         stale,
         resume: is_flagged(matches, "resume"),
+        check: is_flagged(matches, "check"),
+        status: value_text(alloc, matches, "status")?,
+        ready: value_text(alloc, matches, "ready")?,
+        log_time: is_flagged(matches, "log-time"),
+        times: value_text(alloc, matches, "times")?,
+        recorded: value_text(alloc, matches, "record")?,
+        sync: value_text(alloc, matches, "sync")?,
     })
 }
 
@@ -142,7 +149,7 @@ fn seconds_of(value: &str) -> Option<u32>
     }
 }
 
-/// The seconds, if they are 1 or more and no more than a day has.
+/// The seconds, if they are 1 or more and at most those of a day.
 fn if_in_a_day(seconds: u32) -> Option<u32>
     ensures { result ≡ in_a_day seconds }
 {
@@ -159,7 +166,7 @@ fn are_digits(text: &[u8]) -> bool
     text.iter().all(|byte| byte.is_ascii_digit())
 }
 
-/// The feeds of the values of `--feed`, no letter twice.
+/// The feeds of the values of `--feed`. No letter may be there twice.
 fn feeds_in(alloc: Global, values: &[&str]) -> Result<Vec<FeedPath>, WordsFault>
     ensures read { IfOk result (λ feeds. feeds_of (map (λ value. value.now) values.now) ≡ Some (map shown_feed feeds.items)) }
     ensures refused { IfErr result (IsFeedsFault (map (λ value. value.now) values.now)) }
@@ -177,7 +184,7 @@ fn feeds_in(alloc: Global, values: &[&str]) -> Result<Vec<FeedPath>, WordsFault>
     Ok(feeds)
 }
 
-/// Whether one of the feeds has the place.
+/// Whether any of the feeds has the place.
 fn has_place(feeds: &[FeedPath], place: u8) -> bool
     ensures { result ≡ list_any (λ feed. feed.place == place) feeds.now }
 {

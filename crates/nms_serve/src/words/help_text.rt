@@ -1,4 +1,4 @@
-//! What the help says before and after the options.
+//! The texts of the help before and after the options.
 
 /// The version that `--version` prints.
 pub(crate) const VERSION: &str = "0.2.0";

@@ -4,17 +4,17 @@ use clap::ArgAction;
 /// An option, with its explanation in the help.
 pub(crate) struct OptionWord {
     pub(crate) name: &'static str,
-    /// What the help calls its value; empty for a flag.
+    /// The names of its values in the help; none for a flag.
     pub(crate) values: &'static [&'static str],
-    /// What a use of it does; none if it has one value and stands once.
+    /// The action of its use; none if it has one value and is given once.
     pub(crate) action: Option<ArgAction>,
-    /// Whether it has to stand.
+    /// Whether the option has to be given.
     pub(crate) required: bool,
     pub(crate) help: &'static str,
 }
 
 /// The options, in the order in which the help has them.
-pub(crate) static OPTIONS: [OptionWord; 9] = [
+pub(crate) static OPTIONS: [OptionWord; 16] = [
     OptionWord {
         name: "setup",
         values: &["FILE"],
@@ -77,5 +77,54 @@ pub(crate) static OPTIONS: [OptionWord; 9] = [
         action: Some(ArgAction::SetTrue),
         required: false,
         help: "Goes on with the tape that an earlier run has left, if there is one",
+    },
+    OptionWord {
+        name: "check",
+        values: &[],
+        action: Some(ArgAction::SetTrue),
+        required: false,
+        help: "Tests the setup, the paths and the tape as a run would, and starts none",
+    },
+    OptionWord {
+        name: "status",
+        values: &["FILE"],
+        action: None,
+        required: false,
+        help: "Writes the state of the run to this file once a second",
+    },
+    OptionWord {
+        name: "ready",
+        values: &["FILE"],
+        action: None,
+        required: false,
+        help: "Makes this file once the run serves, and removes it at the end",
+    },
+    OptionWord {
+        name: "log-time",
+        values: &[],
+        action: Some(ArgAction::SetTrue),
+        required: false,
+        help: "Begins each line on standard error with the time of day, UTC",
+    },
+    OptionWord {
+        name: "times",
+        values: &["ZONE"],
+        action: None,
+        required: false,
+        help: "Writes the time of each change to FILE.times, in a zone, as -0500 or +0000",
+    },
+    OptionWord {
+        name: "record",
+        values: &["FILE"],
+        action: None,
+        required: false,
+        help: "The file that each request and its answer are written to",
+    },
+    OptionWord {
+        name: "sync",
+        values: &["WHEN"],
+        action: None,
+        required: false,
+        help: "What waits for the disk: each publish, each second, or none (as without it)",
     },
 ];

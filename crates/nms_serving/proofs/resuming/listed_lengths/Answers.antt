@@ -1,4 +1,4 @@
--- `listed_lengths`, `found`: a whole line is the next length, by `next_length`, and the rest is part of one, by `no_next`.
+-- `listed_lengths`, `found`: a complete line is the next length, by `next_length`, and the rest is part of one, by `no_next`.
 use Rattle.std.proofs.Common.{◌≡◌, ◌∙◌, ◌+◌, ◌≤◌, None, Some, sym, ap, arith, length, length-drop}
 use Rattle.nms_serving.proofs.ResumeFacts.{all_listed, next_length, no_next, still_moved}
 use Rattle.nms_serving.proofs.resuming.listed_lengths.Goals as goal

@@ -4,7 +4,7 @@ use Rattle.clap.specs.Words.{app_of, with_rule}
 use Rattle.nms_serve.specs.Options.{option_rule}
 use Rattle.nms_serve.proofs.words.command_line.with_options.Given as goal
 
--- the options that are left make the whole of it
+-- the options that are left complete it
 abbrev pub invariant-loop-option : goal.invariant-loop-option
 invariant-loop-option l = fold with_rule (app_of l.command) (map option_rule (drop l.option-index l.options))
     ≡ fold with_rule (app_of l.fn.command) (map option_rule l.options)

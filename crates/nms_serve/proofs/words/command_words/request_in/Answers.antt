@@ -89,4 +89,11 @@ returns-clause-read c =
       wait = c.is_flagged-3.ensures;
       stale = sym (c.in-Some.ensures ∙ ap stale_of c.first_value-2.ensures);
       resume = c.is_flagged-4.ensures;
+      check = c.is_flagged-5.ensures;
+      status = c.in_ok-value_text-2.ensures;
+      ready = c.in_ok-value_text-3.ensures;
+      log_time = c.is_flagged-6.ensures;
+      times = c.in_ok-value_text-4.ensures;
+      recorded = c.in_ok-value_text-5.ensures;
+      sync = c.in_ok-value_text-6.ensures;
     }
