@@ -10,12 +10,13 @@ page a line of four spaces and `./nms_review WORDS` is a call, or one of `./nms_
 after it is what it writes, with the words `status N` in the text between them if N is not 0. Besides these the program
 meets a closed output, one whose reader has gone, records of a million bytes, records whose fields and lists are longer than
 any that is right, byte order marks before quotes, each byte of a file once, a setup of many symbols, streams of several
-pieces, a symbol that is cut to four shards, what is written beside a shard, lines of all ends, a trade after a refused row,
-imports to one name that fail or have fewer shards, a script of one record too many, the imports of examples/import/, and the
-random files and pages that the judges JUDGES compare with a plain slow program.
+pieces, a symbol that is cut to four shards, what is written beside a shard, lines of all ends, a trade after a refused row, a
+terminal and users who want no colours, imports to one name that fail or have fewer shards, a script of one record too many,
+the imports of examples/import/, and the random files and pages that the judges JUDGES compare with a plain slow program.
 """
 import gzip
 import os
+import pty
 import random
 import re
 import resource
@@ -30,7 +31,9 @@ from trials import Trial, Wrong, compare, run
 ROOM = os.path.join(EXAMPLES, "review")
 # The pages whose calls run, the mappings of examples/import/, and the programs that judge random files.
 PAGES = ("docs/REVIEW.md", "docs/TRADES.md")
-IMPORTS = ("taq", "databento-mbp1", "lobster", "taq-trades")
+IMPORTS = ("taq", "taq-shares", "databento-mbp1", "databento-client", "lobster", "plain", "taq-trades", "databento-tbbo", "lobster-trades", "plain-trades")
+# The page whose calls are followed one after another.
+FOLLOWED = "docs/MINUTES.md"
 CLOSED = ("2>&-", "1>&-", "1>&- 2>&-", "0<&-", "0<&- 1>&- 2>&-")
 JUDGES = ("import_judge.py", "times_judge.py", "trades_judge.py", "pages_judge.py", "day_judge.py")
 # Memory within which a file of two hundred million bytes is explained: it must not grow with the file, but with the longest
@@ -62,12 +65,22 @@ def pages(program, tool):
             yield Trial(f"{page}: {words}", shown, (ran, words.split(), int(status[1]) if status else 0, block.encode()))
 
 
-def shown(program, words, status, text):
+def followed(program):
+    """The calls of a page, one after another in their own folder."""
+    with tempfile.TemporaryDirectory(prefix="nms-") as room:
+        os.symlink(EXAMPLES, os.path.join(room, "examples"))
+        calls = CALL.findall(read(TOP, FOLLOWED).decode())
+        must(len(calls) == 3, f"{len(calls)} calls")
+        for _, words, _, block in calls:
+            shown(program, words.split(), 0, block.encode(), room)
+
+
+def shown(program, words, status, text, place=TOP):
     """A call at the top of the repository that writes this text, or its beginning if it ends with a line `..`."""
     words, _, _ = parted(words, ">")
     words, _, given = parted(words, "<")
-    with open(os.path.join(TOP, *given) if given else os.devnull, "rb") as file:
-        ran = subprocess.run([program, *words], cwd=TOP, stdin=file, capture_output=True, timeout=MOST, check=False)
+    with open(os.path.join(place, *given) if given else os.devnull, "rb") as file:
+        ran = subprocess.run([program, *words], cwd=place, stdin=file, capture_output=True, timeout=MOST, check=False)
     came = ran.stdout or ran.stderr
     if text.endswith(b"\n..\n"):
         text = text[:-3]
@@ -273,7 +286,7 @@ def name_found(program, path):
 
 
 def other_keys(file):
-    """A setup with 100 keys that may not stand there."""
+    """A setup with 100 keys that are not allowed there."""
     file.write(b'tape_limit = 3\nqueue = 2\ndesks = 1\n' + b"".join(b"k%d = 1\n" % it for it in range(100)))
     file.write(b'[[participant]]\nname = "N"\nfeed = "A"\nfee = 0\nrate = 0\n[[symbol]]\nname = "ABC"\nlot = 100\n')
 
@@ -455,7 +468,7 @@ lot = 40
 
 
 def shard_of(program, path):
-    """What is written beside the changes of a shard: the setup with its caps, feeds, fees and lots, and the symbols in the order of the rows."""
+    """What is written next to the changes of a shard: the setup with its caps, feeds, fees and lots, and the symbols in the order of the rows."""
     room = os.path.dirname(path)
     tables = SHARD.split(b"\n\n")
     setup = b"\n\n".join([tables[0].partition(b"\n")[2], *tables[1:3], tables[4]])
@@ -470,6 +483,7 @@ def shard_of(program, path):
     compare("out.1.symbols", read(room, "out.1.symbols"), b"XYZ,1,2\nABC,3,3\n")
     form = b"refused: a symbol that is not 1 to 8 capital letters, digits and points"
     told = b"given.csv:4: column 3: %s: `ABCD.PRAW`\ngiven.csv:5: column 3: %s: `abc`\n" % (form, form)
+    told += b"nms_review: participants and symbols are those of the setup setup.toml\n"
     must((ran.returncode, ran.stderr) == (0, told), f"{ran.returncode}, {ran.stderr!r}")
 
 
@@ -496,17 +510,34 @@ def editor_lines(program, path):
             must((ran.returncode, told) == (0, wanted), f"{end!r}: {ran.returncode}, {len(told)} rows, the first that differs: {differs}")
 
 
+def unknown_kind(file):
+    """One record, of no kind: the answer is no longer than a terminal holds."""
+    file.write(b"Z,0\n")
+
+
+def colours(program, path):
+    """A refused record on a terminal: its field is bold, but not if the user or the terminal wants no colours."""
+    for name, value, wanted in (("TERM", "xterm", True), ("TERM", "dumb", False), ("NO_COLOR", "1", False), ("NO_COLOR", "", True)):
+        here, there = pty.openpty()
+        environment = {"PATH": os.environ["PATH"], "TERM": "xterm", name: value}
+        ran = called(program, ["explain", "changes", path], stdout=there, stderr=subprocess.PIPE, env=environment)
+        os.close(there)
+        shown = os.read(here, 1 << 16)
+        os.close(here)
+        must((ran.returncode, b"\x1b[1m" in shown) == (6, wanted), f"{name}={value}: status {ran.returncode}, {shown!r}")
+
+
 TRIALS = [
     ("closed", refused), ("reader_gone", refused), ("long", long_records), ("far_name", long_names), ("far_fields", long_fields),
     ("mark", marked), ("mark_in_parts", nothing), ("harmless", each_byte), ("small_memory", large), ("no_memory", larger),
     ("one_found", among), ("one_too_many", too_many), ("name_found", many_symbols), ("most_faults", other_keys), ("pieces", each_other), ("cut_often", nothing),
     ("withdrawn", nothing), ("lots_of_the_setup", nothing), ("out_of_one_import", nothing), ("inputs_named_as_shards", nothing),
-    ("shard_of", nothing), ("editor_lines", nothing),
+    ("shard_of", nothing), ("editor_lines", nothing), ("colours", unknown_kind),
 ]
 
 
 def imported(program, mapping):
-    """The files, the counts and the refused rows that an import of the rows beside a mapping makes."""
+    """The files, the counts and the refused rows that an import of the rows next to a mapping makes."""
     given = os.path.join(EXAMPLES, "import")
     with tempfile.TemporaryDirectory(prefix="nms-") as room:
         out = os.path.join(room, "day")
@@ -542,7 +573,7 @@ CODES = {"": "00 01", "skipped": "07 08 10 11 12", "refused": "02 13 -"}
 
 
 def shipped(program):
-    """The mappings of TAQ beside the examples, on a row of each condition, letter and code."""
+    """The mappings of TAQ next to the examples, on a row of each condition, letter and code."""
     with tempfile.TemporaryDirectory(prefix="nms-") as room:
         quotes = [(kind, it) for kind, those in QUOTES.items() for it in those.split()]
         head = read(EXAMPLES, "import", "taq.txt").partition(b"\n")[0].decode()
@@ -588,6 +619,7 @@ def trials(program, tool):
     yield from (Trial(f"trial: {name}", in_room, (name, make, program)) for name, make in TRIALS)
     yield from (Trial(f"trial: imported {it}", imported, (program, it)) for it in IMPORTS)
     yield from (Trial(f"trial: imported with {it}", imported_closed, (program, it)) for it in CLOSED)
+    yield Trial(f"trial: {FOLLOWED}", followed, (program,))
     yield Trial("trial: conditions, letters and codes of the mappings of TAQ", shipped, (program,))
     yield from (Trial(f"trial: judged by {it}", judged, (program, it)) for it in JUDGES)
     yield from (Trial(f"examples/review/{it}", named_by_the_page, (it,)) for it in sorted(os.listdir(ROOM)))

@@ -6,9 +6,10 @@
 ROWS is 100,000 if it is not given, shared by the layouts of LAYOUTS: those of examples/import/, and some of them with another
 form of times or another word for rows of which one side alone is manual; and the layouts of trades TRADES. The rows stand in
 two files, with a share of them wrong in each way that a row can be. The files that are written, and the counts, must be those
-of the converter: also with --rows, and with --shards for rows by symbol, some of which come too late. Prints the seed, and at a
-difference the layout and the line. Ends with status 1 at a difference.
+of the converter: also with --rows, with --refused, with --add-symbols, and with --shards for rows by symbol, some of which come
+too late. Prints the seed, and at a difference the layout and the line. Ends with status 1 at a difference.
 """
+import json
 import os
 import random
 import re
@@ -17,6 +18,8 @@ import sys
 import tempfile
 import tomllib
 from dataclasses import dataclass, field
+from datetime import date, datetime, timedelta, timezone
+from zoneinfo import ZoneInfo
 
 from drawn import clock
 
@@ -46,7 +49,10 @@ class Layout:
     edits: list = field(default_factory=list)
     fixed: dict = field(default_factory=dict)
     form: str = "HHMMSSn"
-    zone: int = 0
+    # The seconds that times are moved on, None if they are moved to New York's time.
+    zone: int | None = 0
+    # Whether bits of the column `flags` say which rows are skipped, and which are no quotations that are read.
+    bits: bool = False
     unit: str = "dollars"
     none: tuple = ("", "0", "0.00")
     # The shares of a unit of size, None if it is the setup's lot of each symbol.
@@ -76,9 +82,19 @@ LAYOUTS = [
         half="automated", withdraws=False),
     taq("taq, iso", 14, [('form = "HHMMSSn"', 'form = "iso"\nzone_offset = "+0530"')], form="iso", zone=19800),
     taq("taq, iso without a zone", 6, [('form = "HHMMSSn"', 'form = "iso"')], form="iso"),
+    taq("taq, iso, New York", 12, [('form = "HHMMSSn"', 'form = "iso"\nzone = "America/New_York"')], form="iso", zone=None),
+    taq("taq, with colons and asks", 6, [('form = "HHMMSSn"', 'form = "HH:MM:SS"'), ('offer = "Offer_Price"', 'ask = "Offer_Price"'),
+        ('offer_size = "Offer_Size"', 'ask_size = "Offer_Size"')], form="HH:MM:SS"),
+    taq("taq, microseconds", 6, [('form = "HHMMSSn"', 'form = "unix_us"\nzone_offset = "-0400"')], form="unix_us", zone=72000),
+    taq("taq, milliseconds", 6, [('form = "HHMMSSn"', 'form = "unix_ms"\nzone_offset = "-0500"')], form="unix_ms", zone=68400),
     Layout("databento", "databento-mbp1.toml", 20, DATABENTO, {"time": 0, "participant": 3, "symbol": 19, "bid": 13, "bid_size": 15, "offer": 14,
-           "offer_size": 16}, delimiter=",", form="unix_ns", zone=68400, unit="1e-9", none=("", "9223372036854775807"),
+           "offer_size": 16}, delimiter=",", edits=[('zone = "America/New_York"', 'zone_offset = "-0500"')], form="unix_ns", zone=68400, unit="1e-9",
+           none=("", "9223372036854775807"),
            names_of={"2": "Q"}, same=False, states=False),
+    Layout("databento, New York, by bits", "databento-mbp1.toml", 12, DATABENTO, {"time": 0, "participant": 3, "symbol": 19, "bid": 13, "bid_size": 15,
+           "offer": 14, "offer_size": 16, "flags": 10}, edits=[('bid = "bid_px_00"', 'bid = "bid_px_00"\nskip = { column = "flags", bits = 128 }\ncondition = { column = 11, bits = 12 }'),
+           ('[symbol]', '[skip]\nwords = ["0"]\n[state]\nautomated = ["0"]\n[symbol]')], delimiter=",", form="unix_ns", zone=None, unit="1e-9",
+           none=("", "9223372036854775807"), names_of={"2": "Q"}, same=False, bits=True),
     Layout("lobster", "lobster.toml", 14, ["field"] * 10, {"time": 0, "bid": 8, "bid_size": 9, "offer": 6, "offer_size": 7}, header=False, delimiter=",",
            fixed={"participant": "Q", "symbol": "AAPL"}, form="seconds", unit="1e-4", none=("", "9999999999", "-9999999999"),
            same=True, states=False),
@@ -98,9 +114,9 @@ def roster():
 
 def price_of(layout, text):
     """A price in 1/10,000 dollar, None for none; ValueError if it is none of the unit."""
-    if text in layout.none:
+    if text in (*layout.none, "nan", "NaN"):
         return None
-    forms = {"dollars": r"[0-9]{1,7}(\.[0-9]{1,4})?", "1e-4": "[0-9]{1,11}", "1e-9": "[0-9]{1,19}"}
+    forms = {"dollars": r"[0-9]{1,7}(\.[0-9]{1,4}0*)?", "1e-4": "[0-9]{1,11}", "1e-9": "[0-9]{1,19}"}
     if not re.fullmatch(forms[layout.unit], text):
         raise ValueError
     if layout.unit == "dollars":
@@ -117,16 +133,23 @@ def price_of(layout, text):
     return number or None
 
 
+def whole_of(text):
+    """A number of at most nine digits, with only zeros after a point; None if it is none."""
+    found = re.fullmatch(r"([0-9]{1,9})(\.0+)?", text)
+    return int(found[1]) if found else None
+
+
 def side_of(layout, price, size, lot):
     """The two fields of a side, or the cause why there are none."""
     try:
         price = price_of(layout, price)
     except ValueError:
         return "bad price"
-    if size == "":
+    whole = whole_of(size)
+    if size in ("", "nan", "NaN"):
         shares = 0
-    elif re.fullmatch("[0-9]{1,9}", size) and int(size) * lot <= 999999999:
-        shares = int(size) * lot
+    elif whole is not None and whole * lot <= 999999999:
+        shares = whole * lot
     else:
         return "bad size"
     if shares == 0:
@@ -137,8 +160,31 @@ def side_of(layout, price, size, lot):
 
 
 def zoned(layout, nanos):
-    """Nanoseconds after a midnight as a time of day of 15 digits in the layout's zone."""
-    return clock((nanos + layout.zone * 10 ** 9) % (86400 * 10 ** 9))
+    """Nanoseconds since 1970, or after a midnight, as a time of day of 15 digits in the layout's zone; None if it has none."""
+    if layout.zone is not None:
+        return clock((nanos + layout.zone * 10 ** 9) % (86400 * 10 ** 9))
+    second, nano = divmod(nanos, 10 ** 9)
+    if not COVERED[0] <= second < COVERED[1]:
+        return None
+    return datetime.fromtimestamp(second, NEW_YORK).strftime("%H%M%S") + f"{nano:09}"
+
+
+NEW_YORK = ZoneInfo("America/New_York")
+# The seconds since 1970 whose time in New York is read: those of 2007 to 2099.
+COVERED = [int(datetime(year, 1, 1, tzinfo=timezone.utc).timestamp()) for year in (2007, 2100)]
+
+
+def midnight_of(text):
+    """The nanoseconds from 1970 to a date's midnight of UTC; None if it is no date of those years. No month is too short."""
+    found = re.fullmatch("([0-9]{4})-([0-9]{2})-([0-9]{2})", text)
+    if not found or not (2007 <= int(found[1]) <= 2099 and 1 <= int(found[2]) <= 12 and 1 <= int(found[3]) <= 31):
+        return None
+    first = date(int(found[1]), int(found[2]), 1)
+    return ((first - date(1970, 1, 1)).days + int(found[3]) - 1) * 86400 * 10 ** 9
+
+
+# How many digits times since 1970 have at most, and the nanoseconds of one.
+SINCE_1970 = {"unix_ns": (19, 1), "unix_us": (16, 1000), "unix_ms": (13, 1000000)}
 
 
 def time_of(layout, text):
@@ -148,22 +194,36 @@ def time_of(layout, text):
             return None
         text = text.ljust(15, "0")
         return text if int(text[:2]) < 24 and int(text[2:4]) < 60 and int(text[4:6]) < 60 else None
-    if layout.form == "unix_ns":
-        return zoned(layout, int(text)) if re.fullmatch("[0-9]{1,19}", text) else None
+    if layout.form in SINCE_1970:
+        most, unit = SINCE_1970[layout.form]
+        return zoned(layout, int(text) * unit) if re.fullmatch("[0-9]{1,%d}" % most, text) else None
     if layout.form == "seconds":
         found = re.fullmatch(r"([0-9]{1,5})(?:\.([0-9]{1,9}))?", text)
         if not found or int(found[1]) >= 86400:
             return None
         return zoned(layout, int(found[1]) * 10 ** 9 + int((found[2] or "").ljust(9, "0")))
-    found = re.fullmatch(r".{10}[T ]([0-9]{2}):([0-9]{2}):([0-9]{2})(?:\.([0-9]{1,9}))?Z?", text)
+    day, zone = ("", "") if layout.form == "HH:MM:SS" else (".{10}[T ]", r"(?:Z|([+-])([0-9]{2}):?([0-9]{2}))?")
+    found = re.fullmatch(day + r"([0-9]{2}):([0-9]{2}):([0-9]{2})(?:\.([0-9]{1,9}))?" + zone, text)
     if not found or int(found[1]) > 23 or int(found[2]) > 59 or int(found[3]) > 59:
         return None
     second = int(found[1]) * 3600 + int(found[2]) * 60 + int(found[3])
-    return zoned(layout, second * 10 ** 9 + int((found[4] or "").ljust(9, "0")))
+    if zone and found[5]:
+        if int(found[6]) > 23 or int(found[7]) > 59:
+            return None
+        second -= int(found[5] + "1") * (int(found[6]) * 3600 + int(found[7]) * 60)
+    midnight = midnight_of(text[:10]) if day and layout.zone is None else 0
+    return None if midnight is None else zoned(layout, midnight + second * 10 ** 9 + int((found[4] or "").ljust(9, "0")))
+
+
+def has_bits(text, bits):
+    """Whether a number has any of some bits, as `1` or `0`; another text as it is."""
+    return str(int(int(text) & bits != 0)) if re.fullmatch("[0-9]{1,9}", text) else text
 
 
 def state_of(layout, it):
     """The state, empty for no quotation, and whether only one side is manual; or the cause why there is none."""
+    if layout.bits:
+        return ("A", False) if has_bits(it["flags"], 12) == "0" else "unknown condition"
     if not layout.states:
         return "A", False
     state = STATE.get(it["source"] + it["condition"])
@@ -197,7 +257,7 @@ def outcome(layout, row, parts, syms):
     if len(row) <= max(layout.columns.values()):
         return "too few columns"
     it = {**layout.fixed, **{what: row[place] for what, place in layout.columns.items()}}
-    if it.get("skip") == "B":
+    if it.get("skip") == "B" or layout.bits and has_bits(it["flags"], 128) == "0":
         return "word to skip"
     time = time_of(layout, it["time"])
     if time is None:
@@ -229,16 +289,39 @@ def random_time(layout, dice):
     if layout.form == "HHMMSSn":
         return "".join(parts) + nano[:dice.choice([9, 9, 9, 0, 3, 6])], \
             ["", "12345", "240000000000000", "126000000", "120060", "1200001234567890", "12:00:00", "09300a000"]
-    if layout.form == "unix_ns":
-        return f"{dice.randrange(20000) * 86400 + second}{nano}", \
-            ["", "0", "9999999999999999999", "10000000000000000000", "18446744073709551615", "-1", "1.5", "2024-01-02"]
+    if layout.form in SINCE_1970:
+        digits = SINCE_1970[layout.form][0]
+        return f"{random_day(layout, dice) * 86400 + second}{nano[:digits - 10]}", \
+            ["", "0", "9" * digits, "1" + "0" * digits, "18446744073709551615", "-1", "1.5", "2024-01-02"]
     point = dice.choice(["", "." + nano[:dice.randrange(1, 10)]])
     if layout.form == "seconds":
         return f"{second}{point}", ["", "86400", "86399.999999999", "86400.000000000", "1.", ".5", "1.0000000000", "100000", "000001", "-1", "1.5.5"]
-    day = f"2024-01-02{dice.choice('T ')}"
-    return f"{day}{':'.join(parts)}{point}{dice.choice(['', 'Z'])}", \
+    if layout.form == "HH:MM:SS":
+        return f"{':'.join(parts)}{point}", \
+            ["", "9:30:00", "24:00:00", "12:60:00", "12:00:60", "12:00", "12:00:00.", "12:00:00.1234567890", "12:00:00Z", "12:00:00 ", "12-00-00",
+             "120000", "2024-01-02 12:00:00", "12:00:00-05:00", "23:59:59.999999999"]
+    day = f"{date(1970, 1, 1) + timedelta(random_day(layout, dice))}{dice.choice('T ')}"
+    zone = dice.choice(["", "Z", "+00:00", "-05:00", "-0500", "+05:30", "-23:59", "+2359"])
+    return f"{day}{':'.join(parts)}{point}{zone}", \
         ["", day + "24:00:00", day + "12:60:00", day + "12:00:60Z", day + "12:00", day + "12:00:00.", day + "12:00:00.Z", day + "1a:00:00",
-         day + "12:00:00.1234567890", day + "12:00:00ZZ", day + "12:00:00+00:00", day + "12-00:00", day + "12:00-00", "2024-01-02_12:00:00", day + "23:59:59.999999999Z"]
+         day + "12:00:00.1234567890", day + "12:00:00ZZ", day + "12:00:00+24:00", day + "12:00:00-00:60", day + "12:00:00+00", day + "12:00:00+00:0",
+         day + "12:00:00+000000", day + "12:00:00-05-00",
+         day + "12:00:00.+00:00", day + "12:00:00.5-00:00Z", day + "12:00:00 -05:00", day + "12-00:00",
+         day + "12:00-00", "2024-01-02_12:00:00", day + "23:59:59.999999999Z",
+         *(it + " 12:00:00.5-05:00" for it in ("2024-13-01", "2024-00-10", "2024-02-31", "2024-04-31", "2024-05-00", "2024-05-32", "2006-12-31", "2100-01-01",
+                                               "2024/05/01", "2024-05/01", "20240-1-01", "2024-1-011", "+024-01-01", "          ")),
+         "2007-01-01 00:00:00+00:01", "2007-01-01 00:00:00Z", "2099-12-31 23:59:59.9-00:01", "2099-12-31 23:59:59.9-00:00"]
+
+
+def random_day(layout, dice):
+    """A day since 1970; for New York mostly one of those that are read, and often one near a change of the clock."""
+    if layout.zone is not None or dice.randrange(20) == 0:
+        return dice.randrange(20000)
+    if dice.randrange(2):
+        return COVERED[0] // 86400 + dice.randrange((COVERED[1] - COVERED[0]) // 86400)
+    month, first = dice.choice([(3, 8), (11, 1)])
+    day = date(dice.randrange(2007, 2100), month, first)
+    return (day - date(1970, 1, 1)).days + (6 - day.weekday()) % 7
 
 
 def random_price(layout, dice, number):
@@ -248,7 +331,7 @@ def random_price(layout, dice, number):
     if layout.unit == "1e-9":
         return str(number * 100000)
     text = f"{number // 10000}.{number % 10000:04}"
-    return dice.choice([text, text.rstrip("0").rstrip("."), text])
+    return dice.choice([text, text.rstrip("0").rstrip("."), text, text + "00", text + "0" * 30])
 
 
 def random_row(layout, dice, parts, syms):
@@ -263,12 +346,14 @@ def random_row(layout, dice, parts, syms):
         "symbol": maybe(dice.choice(syms).replace(".", " " if layout.lot is None else "."), ["", "MSFT", "ZVZZT", "BRK B PR", "ABCDEFGHI", "aapl"], 20),
         "bid": maybe(random_price(layout, dice, middle), ["", "0", "0.00", "0.0000", "1.23456", "12345678", "-1", "1e3", ".5", "1.", *layout.none,
                                                           "9999900001", "9999999999999900000", "10000000000000000", "123456789012"]),
-        "bid_size": maybe(str(dice.choice([0, *lots])), ["", "00", "1234567890", "9999999", "10000000", "1.0", " 1"]),
-        "offer": maybe(random_price(layout, dice, middle + dice.randrange(1, 500)), ["", "0", "9999999.9999", "10.00005", "x", *layout.none]),
+        "bid_size": maybe(str(dice.choice([0, *lots])), ["", "00", "1234567890", "9999999", "10000000", "1.0", " 1", "300.00", "1.", "1.01", ".0", "nan", "NaN", "nan.0"]),
+        "offer": maybe(random_price(layout, dice, middle + dice.randrange(1, 500)), ["", "0", "9999999.9999", "10.00005", "10.000050", "10.0000000",
+                                                                                    "1.2345000001", "nan", "NaN", "NAN", "x", *layout.none]),
         "offer_size": maybe(str(dice.choice([0, *lots])), ["", "10000000", "-1"]),
         "condition": maybe("R", list("OWHDICLNAEFYZBU4X") + [""], 8),
         "source": maybe(dice.choice("CN"), ["", "X"], 200),
         "skip": maybe("", ["A", "B", "C"], 50),
+        "flags": maybe(str(128 | dice.choice([0, 2, 64, 66])), ["", "0", "127", "136", "132", "4", "-1", "1.0", "x", "0000000128", "000000128", "999999999", "65535"], 10),
     }
     fields = [""] * len(layout.names)
     for what, place in layout.columns.items():
@@ -461,6 +546,75 @@ def differs(name, wanted, got, ran):
     return True
 
 
+def refused_in(layout, paths, told):
+    """The file and the line of each row that is refused, for `told` says of a row the cause why it makes nothing."""
+    refused = []
+    for path in paths:
+        with open(path, encoding="utf-8") as file:
+            for line, text in enumerate(file.read().splitlines(), 1):
+                why = None if layout.header and line == 1 else told(text.split(layout.delimiter))
+                if isinstance(why, str) and why not in (*SKIPS, "no trade"):
+                    refused.append((path, line))
+    return refused
+
+
+def shown_in(layout, path):
+    """The file and the line of each row that `--refused` wrote, whose text must stand in its column."""
+    shown = []
+    for line in lines_of(path):
+        it = json.loads(line)
+        if it["what"] == "refused":
+            shown.append((it["file"], it["line"]))
+            with open(it["file"], encoding="utf-8") as file:
+                row = file.read().splitlines()[it["line"] - 1].split(layout.delimiter)
+            text = row[it["column"] - 1] if it["column"] else ""
+            # A text that is not plain is shown by escapes.
+            if it["text"] != text and re.fullmatch("[ -~]*", text):
+                shown.append((it["file"], it["line"], it["text"], text))
+    return shown
+
+
+def judge_refused(program, layout, dice, rows):
+    """Runs the program with --refused. Returns whether the file has every row that is refused, and standard error none."""
+    parts, syms = roster()
+    is_trade = "price" in layout.columns
+    made = [(random_trade if is_trade else random_row)(layout, dice, parts, syms) for _ in range(rows)]
+    told = (lambda row: trade_outcome(layout, 1, row, parts, syms)) if is_trade else lambda row: outcome(layout, row, parts, syms)
+    with tempfile.TemporaryDirectory() as room:
+        paths, _ = files_of(layout, dice, made, room)
+        file = os.path.join(room, "refused.json")
+        ran, _ = run_import(program, layout, paths, room, (), ["--refused", file])
+        wanted, shown = refused_in(layout, paths, told), shown_in(layout, file)
+    if differs(f"{layout.name}: --refused", wanted, shown, ran) or b": refused: " in ran.stderr:
+        return False
+    print(f"{layout.name}: --refused: equal: {len(shown)} rows; status {ran.returncode}")
+    return True
+
+
+def judge_added(program, layout, dice, rows):
+    """Runs the program with --add-symbols. Returns whether it wrote what the converter writes under the
+    setup with all symbols, and that setup."""
+    parts, _ = roster()
+    names = sorted({"".join(dice.choice("ABCDEFGH.") for _ in range(dice.randrange(1, 9))) for _ in range(60)} | {"ABC", "BRK.B"})
+    made = [random_row(layout, dice, parts, names) for _ in range(rows)]
+    with tempfile.TemporaryDirectory() as room:
+        paths, given = files_of(layout, dice, made, room)
+        ran, got = run_import(program, layout, paths, room, ("changes", "times", "symbols", "toml"), ["--add-symbols"])
+        symbols = list(LOTS)
+        for row in given:
+            it = outcome(layout, row, parts, symbols)
+            place = layout.columns["symbol"]
+            name = (row[place] if place < len(row) else "").replace(" ", ".")
+            if it == "other symbol" and re.fullmatch("[A-Z0-9.]{1,8}", name):
+                symbols.append(name)
+        wanted = wanted_of(layout, given, parts, symbols, False)
+        added = tomllib.loads("\n".join(got.pop("toml")))
+    if [(it["name"], it["lot"]) for it in added["symbol"]] != [(it, LOTS.get(it, 100)) for it in symbols]:
+        print(f"{layout.name}: --add-symbols: wanted {symbols}, got {added['symbol']}"[:2000])
+        return False
+    return are_same(layout, wanted, got, ran)
+
+
 def judge(program, layout, dice, rows, numbers=False):
     """Runs the program on random rows of a layout. Returns whether it wrote what the converter writes."""
     parts, syms = roster()
@@ -493,17 +647,20 @@ TRADES = [
     Layout("trades in 1e-4 dollar, iso", "taq-trades.toml", 30, TRADE_NAMES, TRADE_COLUMNS,
            edits=[('unit = "dollars"', 'unit = "1e-4"'), ('form = "HHMMSSn"', 'form = "iso"\nzone_offset = "-0400"'), ('"*" = "same" ', '#')],
            unit="1e-4", none=(), names_of={"T": "Q", "D": ""}, same=False, form="iso", zone=72000, end="END"),
+    Layout("trades, milliseconds, New York", "taq-trades.toml", 15, TRADE_NAMES, TRADE_COLUMNS,
+           edits=[('form = "HHMMSSn"', 'form = "unix_ms"\nzone = "America/New_York"')],
+           none=(), names_of={"T": "Q", "D": ""}, form="unix_ms", zone=None, end="END"),
 ]
 
 
 def millionths_of(layout, text):
     """A price in 1/1,000,000 dollar, None if it is none of the unit."""
-    forms = {"dollars": r"[0-9]{1,7}(\.[0-9]{1,6})?", "1e-4": "[0-9]{1,11}", "1e-9": "[0-9]{1,19}"}
+    forms = {"dollars": r"[0-9]{1,7}(\.[0-9]{1,6}0*)?", "1e-4": "[0-9]{1,11}", "1e-9": "[0-9]{1,19}"}
     if not re.fullmatch(forms[layout.unit], text):
         return None
     if layout.unit == "dollars":
         whole, _, after = text.partition(".")
-        number, rest = int(whole) * 1000000 + int(after.ljust(6, "0")), 0
+        number, rest = int(whole) * 1000000 + int(after.ljust(6, "0")[:6]), 0
     elif layout.unit == "1e-4":
         number, rest = int(text) * 100, 0
     else:
@@ -546,7 +703,8 @@ def trade_outcome(layout, number, row, parts, syms):
     price = millionths_of(layout, it["price"])
     if price is None:
         return "bad price"
-    if not re.fullmatch("[0-9]{1,9}", it["shares"]) or int(it["shares"]) == 0:
+    shares = whole_of(it["shares"])
+    if not shares:
         return "bad shares"
     if it["side"] not in ("", "N", "B", "A"):
         return "unknown side"
@@ -555,7 +713,7 @@ def trade_outcome(layout, number, row, parts, syms):
     if it["exempt"] not in ("", "0", " ", "1", "X"):
         return "unknown mark"
     side, flags = {"B": "B", "A": "S"}.get(it["side"], ""), flags_of(it["condition"], it["exempt"] in ("1", "X"))
-    return [f"D,{it['id']},{sym},{price // 1000000}.{price % 1000000:06},{int(it['shares'])},{side},@{time},{part},{flags}"]
+    return [f"D,{it['id']},{sym},{price // 1000000}.{price % 1000000:06},{shares},{side},@{time},{part},{flags}"]
 
 
 def random_trade(layout, dice, parts, syms):
@@ -571,9 +729,10 @@ def random_trade(layout, dice, parts, syms):
         "time": maybe(*random_time(layout, dice)),
         "participant": maybe(dice.choice([*parts, "T", "D"]) if layout.same else dice.choice("TD"), ["", "?", "W", "QQ", "N"]),
         "symbol": maybe(dice.choice(syms).replace(".", " "), ["", "MSFT", "ZVZZT", "BRK B PR", "ABCDEFGHI", "aapl"], 20),
-        "price": maybe(right, ["", "0", "0.0", "0.000000", "0.000001", "1.1234567", "12345678", "9999999.999999", "-1", ".5", "1.", "1e3", "99999999999",
+        "price": maybe(right, ["", "0", "0.0", "0.000000", "0.000001", "1.1234567", "1.1234560", "1.12345600000001", "12345678",
+                               "9999999.999999", "-1", ".5", "1.", "1e3", "99999999999",
                                "100000000000", "9999999999999000", "10000000000000000", "9999999999999999999", "10000000000000000000", "1001", "1000"], 20),
-        "shares": maybe(str(dice.choice([1, 7, 100, 25000, 999999999])), ["", "0", "00", "007", "1000000000", "1.0", "-1"]),
+        "shares": maybe(str(dice.choice([1, 7, 100, 25000, 999999999])), ["", "0", "00", "007", "1000000000", "1.0", "-1", "100.000", "1.5", "0.0", "nan"]),
         "side": maybe(dice.choice(["A", "B", "N", ""]), ["S", "BB", "a"]),
         "condition": maybe(condition, ["", "?", "@?", "F", "@F 4", "FTZ", "    ", "2", "\u00e9"], 20),
         "exempt": maybe(dice.choice("01X "), ["", "2", "Y", "11"], 40),
@@ -654,6 +813,8 @@ def main(program, rows="100000", seed=None):
     whole = sum(layout.share for layout in LAYOUTS + TRADES)
     good = [judge(program, layout, dice, int(rows) * layout.share // whole) for layout in LAYOUTS]
     good.append(judge(program, LAYOUTS[0], dice, 2000, numbers=True))
+    good += [judge_refused(program, layout, dice, 2000) for layout in (LAYOUTS[0], TRADES[0])]
+    good.append(judge_added(program, LAYOUTS[0], dice, 3000))
     good += [judge_trades(program, layout, dice, int(rows) * layout.share // whole) for layout in TRADES]
     # A symbol that is cut, many symbols on one tape, and more symbols than a roster has.
     good += [judge_shards(program, LAYOUTS[0], dice, count, limit, symbols, numbers) for count, limit, symbols, numbers in

@@ -31,7 +31,7 @@ def made(dice, lines):
 
 
 def asked(dice, times):
-    """A time to find: one of the file, one beside it, or any."""
+    """A time to find: one of the file, one next to it, or any."""
     known = [it for part in times for it in part]
     if known and dice.randrange(3):
         number = int(dice.choice(known)) + dice.choice([-1, 0, 0, 1])

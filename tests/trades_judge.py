@@ -7,8 +7,8 @@ EXECUTIONS is 20,000 if it is not given. The plain program looks back over all c
 rules.py has, and compares prices in 1/1,000,000 dollar; with times it does so at each version of a window, and of the second
 before. Two files of three have times, with ties; half of those are sorted by symbol, and half of these are a shard that has a
 symbol for a part of the day. In one file of four a symbol is quoted late, or never. One record in ten is refused, in each
-way that a record can be. The lines, the same as JSON with the best quotations, and the table as JSON must be those of the plain
-program. It prints the seed, and at a difference the first execution that differs with the changes up to its version. The last
+way that a record can be. The lines, the same as JSON with the best quotations, the table as JSON, the columns, and the sums of
+quality as JSON must be those of the plain program, which has the quality as fractions of a dollar. It prints the seed, and at a difference the first execution that differs with the changes up to its version. The last
 line is `N passed, M failed`; status 1 at a difference.
 """
 import json
@@ -17,6 +17,7 @@ import random
 import subprocess
 import sys
 import tempfile
+from fractions import Fraction
 
 import judge_lots
 import rules
@@ -103,7 +104,7 @@ def is_inferior(sides, on, part, millionths):
 
 
 def judged(look, tape, sym, when, millionths, shares, part, words, named):
-    """What is found of an execution: its standing, its rows, each with how much it takes and whether it flickered, and the
+    """What is found about an execution: its standing, its rows, each with how much it takes and whether it flickered, and the
     causes. The versions are its own, those of its window, and those of the second before, if its time is known. It is clean
     only if its symbol was quoted on each version."""
     version, window, second = when
@@ -346,6 +347,92 @@ def objects_of(records, answers, bests):
                    "receipt": int(receipt), "by": by, "own": "OWN" in own, "flicker": "FLICKER" in own}
 
 
+COLUMNS = ("record,id,time,symbol,side,price,shares,venue,version,finding,cause,rows,worst,worst_venue,passed_shares,best_bid,bid_shares,"
+           "best_offer,offer_shares,quoted_spread,effective_spread,quote_place,improvement")
+CLASSES = {"1-99": 1, "100-499": 100, "500-1999": 500, "2000-4999": 2000, "5000-9999": 5000, "10000+": 10_000}
+
+
+def quality(side, price, best):
+    """The quoted and the effective spread, the place and the improvement of a price, or nothing if a side has no quotation."""
+    if best["bid"] is None or best["offer"] is None:
+        return None
+    price, bid, offer = Fraction(price), Fraction(best["bid"]), Fraction(best["offer"])
+    above = (price - (bid + offer) / 2) * 2
+    if not side:
+        place = "crossed" if bid > offer else "outside" if not bid <= price <= offer else "at" if bid == offer else \
+            {bid: "at_bid", offer: "at_offer"}.get(price, "inside")
+        return offer - bid, abs(above), place, None
+    better = offer - price if side == "B" else price - bid
+    place = "improved" if better > 0 else "outside" if better < 0 else "at"
+    return offer - bid, above if side == "B" else -above, place, max(better, Fraction(0))
+
+
+def money(dollars):
+    """Dollars with nine decimals, cut towards zero."""
+    nanos = abs(dollars) * 10**9 // 1
+    return f"{'-' * (dollars < 0 and nanos > 0)}{nanos // 10**9}.{nanos % 10**9:09}"
+
+
+def columns_of(records, answers, bests):
+    """The same answers as columns."""
+    yield COLUMNS
+    for number, (record, lines) in enumerate(zip(records, answers), 1):
+        head = lines[0].split(",")
+        if head[0] == "REFUSED":
+            yield ",".join([str(number), *[""] * 8, "refused", head[3], *[""] * 12])
+            continue
+        own, best = own_of(number, record), bests.get(number)
+        time = own["time"] and f"{own['time'][:2]}:{own['time'][2:4]}:{own['time'][4:6]}.{own['time'][6:]}"
+        fields = [number, head[1], time, own["symbol"], own["side"], own["price"], own["executed"], own["participant"]]
+        if head[0] == "OTHER":
+            fields += [None, "other", *[None] * 13]
+        else:
+            count, worst, shares, cause = head[3:] if len(head) > 3 else ("0", "0.000000", "0", "")
+            rows = [line.split(",") for line in lines[1:]]
+            farthest = max(rows, key=lambda it: Fraction(it[6]), default=["", "", ""])
+            fields += [head[2], head[0].lower(), cause, count, worst, farthest[2], shares, *best.values()]
+            found = quality(own["side"], own["price"], best)
+            fields += [None] * 4 if found is None else [money(found[0]), money(found[1]), found[2], None if found[3] is None else money(found[3])]
+        yield ",".join("" if it is None else str(it) for it in fields)
+
+
+def sums_of(records, answers, bests):
+    """The objects of `--quality`."""
+    def none():
+        return {"executions": 0, "shares": 0, "measured": 0, "improved": 0, "at": 0, "outside": 0,
+                "effective_spread": Fraction(0), "quoted_spread": Fraction(0), "improvement": Fraction(0)}
+    groups, aside = {("totals", ""): none()}, {"REFUSED": 0, "OTHER": 0}
+    for number, (record, lines) in enumerate(zip(records, answers), 1):
+        kind = lines[0].split(",")[0]
+        if kind in aside:
+            aside[kind] += 1
+            continue
+        own, best = own_of(number, record), bests[number]
+        found, shares = quality(own["side"], own["price"], best), own["executed"]
+        size = [name for name, least in CLASSES.items() if shares >= least][-1]
+        keys = [("totals", ""), ("executed", own["participant"] or "(none)"), ("symbol", own["symbol"]), ("size", size)]
+        if own["time"]:
+            keys.append(("half_hour", f"{own['time'][:2]}:{'30' if own['time'][2:4] >= '30' else '00'}"))
+        for key in keys:
+            to = groups.setdefault(key, none())
+            to["executions"] += 1
+            to["shares"] += shares
+            if found:
+                to["measured"] += shares
+                for name, those in (("improved", ("improved", "inside")), ("at", ("at", "at_bid", "at_offer")), ("outside", ("outside",))):
+                    to[name] += found[2] in those
+                for name, amount in (("quoted_spread", found[0]), ("effective_spread", found[1]), ("improvement", found[3] or 0)):
+                    to[name] += amount * shares
+    def item(what, name, it):
+        spreads = {key: money(it[key] / it["measured"]) if it["measured"] else None for key in ("effective_spread", "quoted_spread")}
+        more = {"refused": aside["REFUSED"], "other": aside["OTHER"]} if what == "totals" else {"name": name}
+        return {"what": what, **more, **it, **spreads, "improvement": money(it["improvement"])}
+    symbols = sorted(SYMS, key=lambda it: -groups.get(("symbol", it), none())["shares"])
+    order = {"totals": [""], "executed": [*PARTS, "(none)"], "symbol": symbols, "size": list(CLASSES),
+             "half_hour": sorted(name for what, name in groups if what == "half_hour")}
+    return [item(what, name, groups[what, name]) for what, names in order.items() for name in names if (what, name) in groups]
+
+
 def ran(program, folder, status, *options):
     done = subprocess.run([program, "trades", "c", "e", *options], cwd=folder, capture_output=True, text=True, timeout=600)
     if done.returncode != status or done.stderr:
@@ -388,6 +475,12 @@ def difference(program, folder, made):
     came = [json.loads(it) for it in ran(program, folder, status, "--table", "--json", *options)]
     if came != table:
         return "\n".join(["the table differs", *(f"{it}\n{own}" for it, own in zip(came, table) if it != own)])
+    came, wanted = ran(program, folder, status, "--columns", *options), list(columns_of(records, answers, bests))
+    if came != wanted:
+        return "\n".join(["the columns differ", *(f"{it}\n{own}" for it, own in zip(came, wanted) if it != own)])
+    came, wanted = [json.loads(it) for it in ran(program, folder, status, "--quality", "--json", *options)], sums_of(records, answers, bests)
+    if came != wanted:
+        return "\n".join(["the quality differs", *(f"{it}\n{own}" for it, own in zip(came, wanted) if it != own)])
     return ""
 
 

@@ -31,7 +31,7 @@ later_at keys k key later false is le more =
     ap (λ m. version_by (drop m (k ∷ keys)) later) one in
     rw (is, still_not k key later le is) (omega (arith, more, rest))
 
--- a later key: as many more as come first in what is left
+-- a later key: its version counts those that come first in what is left too
 pub version_later : (keys : List ℕ) (key later : ℕ) → key ≤ later
     → version_by keys later ≡ version_by keys key + version_by (drop (version_by keys key) keys) later
 version_later [] key later le = refl

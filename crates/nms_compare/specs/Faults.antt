@@ -15,7 +15,7 @@ code_of fault.NotTheTimes = code.J1
 code_of fault.ChangesFall = code.J2
 code_of fault.RowsFall = code.J3
 
--- the output could not be written, or memory ran out for it
+-- the output could not be written, or out of memory for it
 abbrev pub is_of_output : CompareFault → Bool
 is_of_output fault.ReadFault = false
 is_of_output fault.WriteFault = true

@@ -26,6 +26,6 @@ place_of (change.Lot sym lot) = sym
 abbrev pub time_in : List ℕ → Option ℕ
 time_in text = if nat_lt 15 (length text) && slice_index text 15 == 10 then number_in 15 (take 15 text) else None
 
--- the version at a key: how many changes stand before the first that is later, which are all if none is
+-- the version at a key: how many changes come before the first that is later, or all if none is
 abbrev pub version_by : (keys : List ℕ) → ℕ → ℕ
 version_by keys key = position_or_len (λ k. nat_lt key k) keys

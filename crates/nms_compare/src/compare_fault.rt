@@ -32,7 +32,7 @@ pub enum CompareFault {
 }
 
 impl CompareFault {
-    /// Its code: `E1` to `E4`, `B1`, or `J1` to `J3`.
+    /// The code of the fault: `E1` to `E4`, `B1`, or `J1` to `J3`.
     pub fn code(self) -> Code
         ensures { result ≡ code_of self }
     {

@@ -1,4 +1,4 @@
-//! The rows of a vendor's file, compared one after another: `specs/Compared`.
+//! Comparing the rows of a vendor's file, one after another: `specs/Compared`.
 ghost use Rattle.std.specs.Prelude.{◌≡◌, ℕ, ◌++◌, List, Option, length, IfOk, OnOk};
 ghost use Rattle.csv.specs.Records.{fields_of};
 ghost use Rattle.csv.specs.declared.parser.Config.{Config};
@@ -14,14 +14,15 @@ use crate::national::read_national;
 use crate::showing::Shown;
 use crate::walk::{Walk, find_on, open_walk, walk_to};
 use csv::{ByteRecord, Reader};
-use nms_import::{Cause, Columns, Meanings, Order, RowSource, line_of, next_row};
+use nms_import::{Cause, Columns, Meanings, Order, RowSource, line_of, name_of, next_row};
+use nms_quote::Roster;
 use std::alloc::Global;
 use std::io::{Read, Write};
 
 /// The most rows of a comparison.
-const MOST_ROWS: u64 = 1_000_000_000_000;
+pub(crate) const MOST_ROWS: u64 = 1_000_000_000_000;
 
-/// How a vendor's rows are read. The meanings are lent by the mapping.
+/// How a vendor's rows are read. The meanings are borrowed from the mapping.
 #[derive(Drop)]
 pub struct Vendor<'a> {
     /// The columns, with the venue of the best bid as the participant.
@@ -34,11 +35,11 @@ pub struct Vendor<'a> {
     pub order: Order,
 }
 
-/// Compares the rows that a reader still has with the best bids and offers of a tape, each on the version at its time, and
-/// counts each by its finding. The first 100 that are not equal are shown.
+/// Compares the rows that a reader still has with the best bids and offers of a tape. Each is compared on the version at its
+/// time, and counted by its finding. The first 100 that are not equal are shown.
 ///
-/// `RowsFall` comes if a row is before an earlier one, in the vendor's order. An error leaves a prefix of the rows shown.
-/// The writer is not flushed.
+/// `RowsFall` comes if a row is before an earlier one, in the vendor's order. After an error only the rows before it were
+/// shown. The writer is not flushed.
 pub fn compare_rows<R: Read, W: Write>(
     alloc: Global,
     vendor: &Vendor<'_>,
@@ -65,6 +66,15 @@ pub fn compare_rows<R: Read, W: Write>(
     Err(CompareFault::TooLong)
 }
 
+/// The columns in which a refused row is shown: those of the offer, if the roster has the bid's venue.
+fn columns_refused<'x>(vendor: &'x Vendor<'_>, roster: &Roster, row: &ByteRecord) -> &'x Columns {
+    let word = vendor.bids.participant.text(row);
+    match name_of(vendor.meanings, word) {
+        Some(name) if roster.find_part(name).is_some() => &vendor.offers,
+        Some(_) | None => &vendor.bids,
+    }
+}
+
 /// The finding on a row, on the version at its time.
 fn find_row<W: Write>(
     vendor: &Vendor<'_>,
@@ -89,7 +99,8 @@ fn find_row<W: Write>(
     )? {
         Ok(theirs) => theirs,
         Err(cause) => {
-            shown.show_cause(cause)?;
+            let columns = columns_refused(vendor, roster, row);
+            shown.show_cause(columns, vendor.meanings, row, cause)?;
             return Ok(Err(cause));
         }
     };

@@ -10,30 +10,31 @@ ghost use Rattle.nms_compare.specs.Compared.{count_cause, count_finding, count_r
 use crate::compare_fault::CompareFault;
 use crate::finding::Finding;
 use nms_import::Cause;
-use nms_show::{Form, Item, ShowFault, write_line};
+use nms_show::{Form, Item, ShowFault, write_line, write_object};
+use std::alloc::Global;
 use std::io::Write;
 
 /// How many rows had each finding.
 #[derive(Clone, Copy, PartialEq, Eq)]
 pub struct Counts {
-    /// Nothing differs.
+    /// Nothing differs in these rows.
     pub equal: u64,
-    /// A price differs.
+    /// A price differs in these rows.
     pub other_price: u64,
-    /// A displayed size differs.
+    /// A displayed size differs in these rows.
     pub other_size: u64,
-    /// A venue differs.
+    /// A venue differs in these rows.
     pub other_venue: u64,
-    /// Only one of the two has a quotation.
+    /// Only one of the two has a quotation in these rows.
     pub no_counterpart: u64,
-    /// The row is malformed.
+    /// These rows are malformed.
     pub refused: u64,
-    /// The mapping skips the row.
+    /// The mapping skips these rows.
     pub skipped: u64,
 }
 
 impl Counts {
-    /// No row.
+    /// The counts of no row.
     pub(crate) fn none() -> Counts
         ensures { result ≡ no_counts }
     {
@@ -48,7 +49,7 @@ impl Counts {
         }
     }
 
-    /// One row more.
+    /// Counts one more row.
     pub(crate) fn count(&mut self, found: Result<Finding, Cause>)
         requires { rows_in self.old < 1000000000000 }
         ensures counted { self.new ≡ count_row self.old found }
@@ -60,7 +61,7 @@ impl Counts {
         }
     }
 
-    /// One finding more.
+    /// Counts one more finding.
     fn count_finding(&mut self, finding: Finding)
         requires { rows_in self.old < 1000000000000 }
         ensures counted { self.new ≡ count_finding self.old finding }
@@ -75,7 +76,7 @@ impl Counts {
         }
     }
 
-    /// One row more that has no national best.
+    /// Counts one more row that has no national best.
     fn count_cause(&mut self, cause: Cause)
         requires { rows_in self.old < 1000000000000 }
         ensures counted { self.new ≡ count_cause self.old (skips cause) }
@@ -100,7 +101,7 @@ impl Counts {
     }
 }
 
-/// Whether a cause skips a row; else it refuses it.
+/// Whether a cause skips a row instead of refusing it.
 fn skips(cause: Cause) -> bool
     ensures { result ≡ skips cause }
 {
@@ -118,7 +119,7 @@ fn skips(cause: Cause) -> bool
     }
 }
 
-/// Writes the counts: a line for each finding, and last the sum. `TooLong` comes if the sum is more than 2^64 - 1, after the
+/// Writes the counts: a line for each finding, and last the sum. If the sum is more than 2^64 - 1, `TooLong` comes after the
 /// lines that still fit. The counts of 1,000,000,000,000 rows always fit.
 pub fn write_counts<W: Write>(out: &mut W, counts: &Counts) -> Result<(), CompareFault>
     ensures safe { Writes IsSafe (W.contents out.old) (W.contents out.new) result }
@@ -139,6 +140,26 @@ pub fn write_counts<W: Write>(out: &mut W, counts: &Counts) -> Result<(), Compar
     line(out, &[Item::Number(rows), Item::Text(" rows")])
 }
 
+/// Writes the counts as one JSON object.
+pub fn write_counts_object<W: Write>(
+    alloc: Global,
+    out: &mut W,
+    counts: &Counts,
+) -> Result<(), CompareFault> {
+    let members = [
+        ("what", Item::Text("counts")),
+        ("equal", Item::Number(counts.equal)),
+        ("other_price", Item::Number(counts.other_price)),
+        ("other_size", Item::Number(counts.other_size)),
+        ("other_venue", Item::Number(counts.other_venue)),
+        ("no_counterpart", Item::Number(counts.no_counterpart)),
+        ("refused", Item::Number(counts.refused)),
+        ("skipped", Item::Number(counts.skipped)),
+    ];
+    write_object(alloc, out, &members)?;
+    Ok(())
+}
+
 /// Writes a line for each number, and returns their sum.
 fn write_table<W: Write>(out: &mut W, table: &[(u64, &'static str)]) -> Result<u64, CompareFault>
     requires own { list_all (λ row. is_plain row.1.now) table.now ≡ true }
@@ -154,7 +175,7 @@ fn write_table<W: Write>(out: &mut W, table: &[(u64, &'static str)]) -> Result<u
     Ok(rows)
 }
 
-/// Writes a line for a number, and returns the sum of those before it and of it.
+/// Writes a line for a number, and returns the sum of the numbers up to it.
 fn write_row<W: Write>(
     out: &mut W,
     before: u64,

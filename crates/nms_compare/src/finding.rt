@@ -13,9 +13,9 @@ pub enum Finding {
     Equal,
     /// A price differs, or only one of the two has that side.
     OtherPrice,
-    /// The prices are the same, and a displayed size differs.
+    /// The prices are the same, but a displayed size differs.
     OtherSize,
-    /// Prices and sizes are the same, and a venue differs.
+    /// Prices and sizes are the same, but a venue differs.
     OtherVenue,
     /// One of the two has neither a bid nor an offer.
     NoCounterpart,
@@ -47,7 +47,7 @@ fn is_nothing(bid: &Option<Row>, offer: &Option<Row>) -> bool
     bid.is_none() && offer.is_none()
 }
 
-/// Whether a vendor has neither side.
+/// Whether a vendor has neither a bid nor an offer.
 fn is_none(bid: &Option<Best>, offer: &Option<Best>) -> bool
     ensures { result ≡ is_nothing bid.now offer.now }
 {

@@ -10,7 +10,7 @@ use nms_stream::Tape;
 use nms_units::parse_digits;
 use std::alloc::Global;
 
-/// The greatest time and one more: a symbol's part of a key counts these.
+/// One more than the greatest time. A symbol's part of a key counts in these.
 pub(crate) const TIMES: u64 = 1_000_000_000_000_000;
 
 /// The changes of a tape, each with its place in the order of a vendor's file.
@@ -18,15 +18,14 @@ pub(crate) const TIMES: u64 = 1_000_000_000_000_000;
 pub struct Keyed<'a> {
     /// The tape.
     pub tape: &'a Tape<'a>,
-    /// The places.
+    /// The place of each change.
     pub keys: Vec<u64>,
     pub ghost each: { length keys.items ≡ length tape.now.changes.items },
 }
 
-/// The places of the changes of a tape, whose times are the lines of a text: 15 digits each, and a line feed.
+/// The places of the changes of a tape. Their times are the lines of a text, of 15 digits and a line feed each.
 ///
-/// `NotTheTimes` comes if the text does not have one such line for each change, `ChangesFall` if a change is before an earlier
-/// one.
+/// `NotTheTimes` comes if the text does not have one such line for each change, `ChangesFall` if a change is before an earlier one.
 pub fn keys_of<'a>(
     alloc: Global,
     order: Order,
@@ -71,7 +70,7 @@ pub fn key_of(order: Order, place: u16, time: u64) -> u64
     }
 }
 
-/// The place of a change's symbol; 0 of a withdrawal.
+/// The place of a change's symbol; 0 for a withdrawal.
 fn place_of(change: &Change) -> u16
     ensures place { result ≡ place_of change.now }
     ensures within { result < MOST_SYMBOLS }
@@ -83,7 +82,7 @@ fn place_of(change: &Change) -> u16
     }
 }
 
-/// The time that a text begins with: 15 digits and a line feed.
+/// The time at the beginning of a text: 15 digits and a line feed.
 fn time_in(text: &[u8]) -> Option<u64>
     ensures time { result ≡ time_in text.now }
     ensures within { IfSome result (λ time. time < 1000000000000000) }

@@ -1,4 +1,4 @@
-//! The national best that a row of a vendor's file says: `specs/National`.
+//! Reading the national best of a row of a vendor's file: `specs/National`.
 ghost use Rattle.std.specs.Prelude.{◌≡◌, ◌<◌, length, true, IfOk, IfSome};
 ghost use Rattle.csv.specs.Records.{fields_of};
 ghost use Rattle.nms_quote.specs.Roster.{Sizes, holds};
@@ -10,10 +10,10 @@ use nms_quote::{Change, Part, Roster, SideQuote, Sym};
 use nms_units::{Price, Shares};
 use std::alloc::AllocError;
 
-/// A side of a vendor's national best.
+/// One side of a vendor's national best.
 #[derive(Clone, Copy, PartialEq, Eq)]
 pub struct Best {
-    /// Who quotes it.
+    /// The participant that quotes it.
     pub part: Part,
     /// Its price in 1/10,000 dollar.
     pub price: Price,
@@ -26,9 +26,9 @@ pub struct Best {
 pub struct National {
     /// The time of day as digits, `HHMMSSnnnnnnnnn`.
     pub time: u64,
-    /// The symbol.
+    /// The best bid; `None` if there is no bid.
     pub sym: Sym,
-    /// The best bid, `None` if there is no bid.
+    /// The best offer; `None` if there is no offer.
     pub bid: Option<Best>,
     /// The best offer, `None` if there is none.
     pub offer: Option<Best>,

@@ -1,4 +1,4 @@
-//! A mapping of a vendor's national bests: one of `import`, with two columns in place of that of the participant
+//! A mapping of a vendor's national bests. It is one of `import`, with two columns instead of that of the participant
 //! (`specs/National`).
 ghost use Rattle.std.specs.Prelude.{◌≡◌, IfErr, IfOk};
 ghost use Rattle.csv.specs.Records.{fields_of};
@@ -11,7 +11,7 @@ ghost use Rattle.nms_compare.specs.National.{IsNationalOf};
 
 use crate::comparing::Vendor;
 use csv::ByteRecord;
-use nms_import::{Draft, FileForm, Kind, MapFault, Mapping, Order, mapping_by};
+use nms_import::{Draft, FileForm, Kind, MapFault, Mapping, Order, key_of, mapping_by};
 use std::alloc::Global;
 use std::marker::Model;
 use toml::Table;
@@ -31,15 +31,16 @@ impl Model for NationalMapping {
     ghost view = { λ m. record { bids = m.bids; offers = m.offers } };
 }
 
-/// The mapping of national bests of a document, or the first of its faults. It is a mapping of `import`, but for the table
-/// `column`, which has `bid_participant` and `offer_participant` in place of `participant`; and `order` is not `free`.
+/// The mapping of national bests of a document, or the first of its faults. It is a mapping of `import`, except for the table
+/// `column`, which has `bid_participant` and `offer_participant` (or `ask_participant`) in place of `participant`; and `order` is not `free`.
 pub fn national_mapping_of(alloc: Global, document: &Table) -> Result<NationalMapping, MapFault<'_>>
     ensures mapping { IfOk result (IsNationalOf (table_view document.now)) }
     ensures refused { IfErr result (IsFirst (faults_of (plain kind.Bests (table_view document.now)))) }
 {
     let draft = Draft::new(Kind::Bests, document);
     let bids = mapping_by(alloc, draft, "bid_participant")?;
-    match mapping_by(alloc, draft, "offer_participant") {
+    let offers = key_of(draft, "offer_participant", "ask_participant");
+    match mapping_by(alloc, draft, offers) {
         Ok(offers) => Ok(NationalMapping { bids, offers }),
         Err(fault) => Err(fault),
     }
@@ -60,8 +61,8 @@ impl NationalMapping {
         self.bids.order
     }
 
-    /// How the rows of a file are read whose first row is `names`, empty if it has no header. `NoColumn` is the first key of
-    /// the table `column` whose name is not in that row.
+    /// How the rows of a file are read if its first row is `names`, which is empty if there is no header. `NoColumn` is the
+    /// first key of the table `column` whose name is not in that row.
     pub fn vendor(&self, alloc: Global, names: &ByteRecord) -> Result<Vendor<'_>, MapFault<'static>>
         ensures bids { IfOk result (λ vendor. ArePlaced self.now.bids (fields_of names.now) vendor.bids) }
         ensures offers { IfOk result (λ vendor. ArePlaced self.now.offers (fields_of names.now) vendor.offers) }

@@ -1,76 +1,123 @@
-//! What is shown of rows that are not equal: the line, the version, the finding, theirs and ours.
+//! What is shown about rows that are not equal: the line, the version, the finding, theirs and ours.
 ghost use Rattle.std.specs.Prelude.{◌≡◌};
-ghost use Rattle.nms_compare.specs.declared.TheConstants.{MOST_SHOWN};
 
 use crate::MOST_SHOWN;
 use crate::compare_fault::CompareFault;
+use crate::comparing::MOST_ROWS;
 use crate::finding::Finding;
 use crate::national::{Best, National};
+use crate::sums::Sums;
+use csv::ByteRecord;
 use nms_board::{Boards, Row};
-use nms_import::Cause;
+use nms_import::{Cause, Columns, Meanings, RowPlace, Telling, column_of, sentence_of, show_row};
 use nms_lines::{name_of_part, name_of_sym};
-use nms_quote::{Part, Roster, Side};
-use nms_show::{Form, Item, write_line};
+use nms_quote::{Part, Roster};
+use nms_show::{Form, Item, write_line, write_object};
 use nms_stream::quoted_on;
 use nms_units::Price;
+use std::alloc::Global;
 use std::io::Write;
 use std::marker::Model;
+
+/// How rows that are not equal are shown.
+#[derive(Clone, Copy)]
+pub struct Showing {
+    /// The allocator.
+    pub alloc: Global,
+    /// As lines for people, or as JSON.
+    pub form: Form,
+    /// Whether all are shown; else the first 100.
+    pub all: bool,
+}
 
 /// Where rows that are not equal are shown.
 #[derive(Drop)]
 pub struct Shown<'a, W> {
     out: &'a mut W,
+    showing: Showing,
     file: &'a str,
     line: u64,
     left: u64,
+    sums: Sums,
 }
 
 impl<'a, W> Model for Shown<'a, W> {
-    ghost use Rattle.nms_compare.specs.Showing.{Showing};
+    ghost use Rattle.nms_compare.specs.Showing.{Shown};
 
-    ghost Value = { Showing W };
+    ghost Value = { Shown W };
 
     ghost view = { λ s. record { out = s.out.now; file = s.file.now; left = s.left } };
 }
 
 impl<'a, W: Write> Shown<'a, W> {
-    /// On a writer, of a file of this name. Nothing is written yet.
-    pub fn new(out: &'a mut W, file: &'a str) -> Shown<'a, W>
-        ensures { result ≡ record { out = out.old; file = file.now; left = MOST_SHOWN } }
+    ghost use Rattle.nms_compare.specs.Showing.{most_of};
+    ghost use Rattle.std.specs.Prelude.{IfOk};
+
+    /// What shows the rows of a file of this name, of this number of symbols, on a writer. Nothing is written yet.
+    pub fn new(
+        showing: Showing,
+        out: &'a mut W,
+        file: &'a str,
+        symbols: usize,
+    ) -> Result<Shown<'a, W>, CompareFault>
+        ensures { IfOk result (λ shown. shown ≡ record { out = out.old; file = file.now; left = most_of showing }) }
     {
-        Shown {
+        let sums = Sums::new(showing.alloc, symbols)?;
+        Ok(Shown {
             out,
+            showing,
             file,
             line: 0,
-            left: MOST_SHOWN,
-        }
+            left: if showing.all { MOST_ROWS } else { MOST_SHOWN },
+            sums,
+        })
     }
 
-    /// Goes on with the row that begins on a line, from 1.
+    /// Notes that the present row begins on a line, counted from 1.
     pub(crate) fn at(&mut self, line: u64)
         ensures { self.new ≡ self.old }
     {
         self.line = line;
     }
 
-    /// Shows a row that has no national best, unless the mapping skips it. The first 100 rows are shown.
-    pub(crate) fn show_cause(&mut self, cause: Cause) -> Result<(), CompareFault> {
+    /// How many rows had each finding, by symbol and by hour.
+    pub fn into_sums(self) -> Sums {
+        self.sums
+    }
+
+    /// Shows a row that has no national best, unless the mapping skips it.
+    pub(crate) fn show_cause(
+        &mut self,
+        columns: &Columns,
+        meanings: &Meanings,
+        row: &ByteRecord,
+        cause: Cause,
+    ) -> Result<(), CompareFault> {
         if self.left == 0 || cause.skips() {
             return Ok(());
         }
         self.left -= 1;
-        let items = [
-            Item::Bytes(self.file.as_bytes()),
-            Item::Text(":"),
-            Item::Number(self.line),
-            Item::Text(": refused: "),
-            Item::Text(phrase_of(cause)),
-        ];
-        write_line(self.out, Form::Text { colours: false }, &items)?;
+        let place = RowPlace {
+            file: self.file,
+            line: self.line,
+            alloc: self.showing.alloc,
+            form: self.showing.form,
+        };
+        show_row(
+            self.out,
+            place,
+            row,
+            column_of(columns, cause),
+            "refused",
+            phrase_of(
+                Telling::new(self.showing.alloc, self.showing.form, meanings),
+                cause,
+            ),
+        )?;
         Ok(())
     }
 
-    /// Shows a row that is not equal to what the board of its version shows.
+    /// Counts a row by its symbol and its hour, and shows it, if it is not equal to what the board of its version shows.
     pub(crate) fn show_finding(
         &mut self,
         roster: &Roster,
@@ -78,34 +125,89 @@ impl<'a, W: Write> Shown<'a, W> {
         theirs: &National,
         finding: Finding,
     ) -> Result<(), CompareFault> {
+        self.sums.count(theirs.sym, theirs.time, finding)?;
         let what = word_of(finding);
         if self.left == 0 || what.is_empty() || !board.has_sym(theirs.sym) {
             return Ok(());
         }
         self.left -= 1;
         let ours = quoted_on(board, theirs.sym);
+        let (bid, offer) = (told_of(&theirs.bid), told_of(&theirs.offer));
+        let (our_bid, our_offer) = (row_told(&ours.bid), row_told(&ours.offer));
+        let symbol = name_of_sym(roster, theirs.sym);
+        if self.showing.form.is_json() {
+            return show_object(
+                self.showing.alloc,
+                self.out,
+                self.file,
+                symbol,
+                self.line,
+                board.applied(),
+                what,
+                roster,
+                &[bid, offer, our_bid, our_offer],
+            );
+        }
         show_head(
             self.out,
             self.file,
-            name_of_sym(roster, theirs.sym),
+            symbol,
             self.line,
             board.applied(),
             what,
         )?;
-        show_sides(
-            self.out,
-            "    theirs: ",
-            roster,
-            &told_of(&theirs.bid),
-            &told_of(&theirs.offer),
-        )?;
-        show_sides(
-            self.out,
-            "    ours:   ",
-            roster,
-            &row_told(&ours.bid),
-            &row_told(&ours.offer),
-        )
+        show_sides(self.out, "    theirs: ", roster, &bid, &offer)?;
+        show_sides(self.out, "    ours:   ", roster, &our_bid, &our_offer)
+    }
+}
+
+/// Shows a row, its finding, and its sides: theirs and ours.
+fn show_object<'x, W: Write>(
+    alloc: Global,
+    out: &mut W,
+    file: &'x str,
+    symbol: &'x str,
+    line: u64,
+    version: u64,
+    what: &'x str,
+    roster: &'x Roster,
+    sides: &[Option<Told>; 4],
+) -> Result<(), CompareFault> {
+    let (bid, offer) = (side_of(roster, &sides[0]), side_of(roster, &sides[1]));
+    let (our_bid, our_offer) = (side_of(roster, &sides[2]), side_of(roster, &sides[3]));
+    let members = [
+        ("what", Item::Text("differs")),
+        ("file", Item::Bytes(file.as_bytes())),
+        ("line", Item::Number(line)),
+        ("version", Item::Number(version)),
+        ("symbol", Item::Text(symbol)),
+        ("finding", Item::Text(what)),
+        ("bid_participant", bid.0),
+        ("bid_price", bid.1),
+        ("bid_shares", bid.2),
+        ("offer_participant", offer.0),
+        ("offer_price", offer.1),
+        ("offer_shares", offer.2),
+        ("our_bid_participant", our_bid.0),
+        ("our_bid_price", our_bid.1),
+        ("our_bid_shares", our_bid.2),
+        ("our_offer_participant", our_offer.0),
+        ("our_offer_price", our_offer.1),
+        ("our_offer_shares", our_offer.2),
+    ];
+    write_object(alloc, out, &members)?;
+    Ok(())
+}
+
+/// The venue, the price and the size of a side, as values of an object.
+fn side_of<'x>(roster: &'x Roster, told: &Option<Told>) -> (Item<'x>, Item<'x>, Item<'x>) {
+    match told {
+        Some(told) => (
+            Item::Text(name_of_part(roster, told.part)),
+            Item::of_price(told.price),
+            Item::Number(u64::from(told.size)),
+        ),
+        None => (Item::Absent, Item::Absent, Item::Absent),
     }
 }
 
@@ -186,7 +288,7 @@ fn row_told(row: &Option<Row>) -> Option<Told> {
     })
 }
 
-/// The venue, the price and the size of a side, or a word for none; and what stands between them.
+/// The items for the venue, the price and the size of a side, or a word for none; and what separates them.
 fn items_of<'x>(
     roster: &'x Roster,
     told: &Option<Told>,
@@ -202,7 +304,7 @@ fn items_of<'x>(
     }
 }
 
-/// The words of a finding; none for one that is not shown.
+/// The text of a finding; empty for one that is not shown.
 fn word_of(finding: Finding) -> &'static str {
     match finding {
         Finding::Equal => "",
@@ -214,22 +316,10 @@ fn word_of(finding: Finding) -> &'static str {
 }
 
 /// Why a row has no national best.
-fn phrase_of(cause: Cause) -> &'static str {
-    match cause {
-        Cause::TooFewColumns => "fewer columns than the mapping names",
-        Cause::BadTime => "no time of day of the mapping's form",
-        Cause::UnknownParticipant => "a venue that is not on the roster",
-        Cause::UnknownSymbol | Cause::OtherSymbol => "a symbol that is not on the roster",
-        Cause::UnknownCondition => "a condition that the mapping does not list",
-        Cause::OneSided(Side::Bid) => "a condition that makes the bid alone manual",
-        Cause::OneSided(Side::Offer) => "a condition that makes the offer alone manual",
-        Cause::BadPrice(Side::Bid) => "no price of the bid in the mapping's unit",
-        Cause::BadPrice(Side::Offer) => "no price of the offer in the mapping's unit",
-        Cause::BadSize(Side::Bid) => "no size of the bid, or one above 999,999,999 shares",
-        Cause::BadSize(Side::Offer) => "no size of the offer, or one above 999,999,999 shares",
-        Cause::HalfSide(Side::Bid) => "a bid with shares and no price",
-        Cause::HalfSide(Side::Offer) => "an offer with shares and no price",
-        Cause::Trailer => "the last line of the file",
-        Cause::Listed => "a word that the mapping skips",
+fn phrase_of(telling: Telling, cause: Cause) -> &'static str {
+    if cause == Cause::UnknownParticipant {
+        "a venue that is not on the roster"
+    } else {
+        sentence_of(telling, cause)
     }
 }

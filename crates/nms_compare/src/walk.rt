@@ -1,4 +1,4 @@
-//! A board that goes along a tape, as far as the rows of a vendor's file have come: `specs/Standing`.
+//! A board that moves along a tape, as far as the rows of a vendor's file have come: `specs/Standing`.
 ghost use Rattle.std.specs.Prelude.{◌≡◌, ◌<◌, ◌≤◌, IfOk, IfSome, length, nat_lt, position};
 ghost use Rattle.nms_quote.specs.Tape.{version};
 ghost use Rattle.nms_stream.specs.Quoted.{quoted_at};
@@ -13,7 +13,7 @@ use nms_board::BoardFault;
 use nms_stream::{Replay, quoted_on};
 use std::alloc::Global;
 
-/// A board, the places of the changes in the order of a file, and the place as far as which the board has gone.
+/// A board, the places of the changes in the order of a file, and the place up to which the board has moved.
 #[derive(Drop)]
 pub(crate) struct Walk<'a> {
     pub(crate) replay: Replay<'a>,
@@ -23,7 +23,7 @@ pub(crate) struct Walk<'a> {
     ghost at: { replay.board.applied ≡ version_by keys.now key },
 }
 
-/// Goes along the changes as far as a key, before any row was met.
+/// Moves along the changes up to a key, before any row is read.
 pub(crate) fn open_walk<'a>(alloc: Global, keyed: &'a Keyed<'a>) -> Result<Walk<'a>, BoardFault>
     ensures tape { IfOk result (λ walk. walk.replay.tape.now ≡ keyed.now.tape.now) }
     ensures keys { IfOk result (λ walk. walk.keys.now ≡ keyed.now.keys.items) }
@@ -37,7 +37,7 @@ pub(crate) fn open_walk<'a>(alloc: Global, keyed: &'a Keyed<'a>) -> Result<Walk<
     })
 }
 
-/// Goes on as far as a later key.
+/// Moves on up to a later key.
 pub(crate) fn walk_to(walk: &mut Walk<'_>, key: u64)
     requires { walk.old.key ≤ key }
     ensures tape { walk.new.replay.tape ≡ walk.old.replay.tape }
@@ -51,7 +51,7 @@ pub(crate) fn walk_to(walk: &mut Walk<'_>, key: u64)
     walk.key = key;
 }
 
-/// How many of the first keys are no later than a key.
+/// How many of the first keys are no later than the given key.
 fn count_not_later(keys: &[u64], key: u64) -> usize
     ensures count { result ≡ version_by keys.now key }
     ensures within { result ≤ length keys.now }

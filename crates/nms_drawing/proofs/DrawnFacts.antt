@@ -1,4 +1,4 @@
--- Pages that were written: of a frame, of a day, of a file of changes, and of executions.
+-- Pages that were written: those of a frame, of a day, of a file of changes, and of executions.
 use Rattle.std.proofs.Common.{ℕ, ◌≡◌, ◌∷◌, [], Bool, List, Option, None, Some, is_some, length, refl, subst, if◌then◌else◌, true, false}
 use Rattle.std.specs.Prelude.{Err, Ok, OnOk, Result}
 use Rattle.nms_quote.specs.Roster.{Listing}

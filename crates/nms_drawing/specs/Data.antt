@@ -92,7 +92,7 @@ plan_tables_text tables =
     table_text (codes "plans") plan_columns tables.plans ++ table_text (codes "legs") leg_columns tables.legs
     ++ table_text (codes "quotations") quotation_columns tables.quotations ++ table_text (codes "said") said_columns tables.said
 
--- the whole data as JSON
+-- all of the data as JSON
 abbrev pub json_text : Lists → Tables → List ℕ
 json_text lists tables =
     codes "{\"format\":1" ++ lists_text lists ++ day_tables_text tables ++ trade_tables_text tables ++ plan_tables_text tables ++ codes "}"

@@ -17,7 +17,7 @@ use Rattle.nms_drawing.specs.Versions.{AreOtherTimes}
 use Rattle.nms_drawing.specs.declared.drawing_fault.DrawingFault.{DrawingFault}
 use Rattle.nms_drawing.specs.declared.drawing_fault.DrawingFault.TheVariants as fault
 
--- the last version that is drawn: the one that is asked for, else that of the whole tape
+-- the last version that is drawn: the one that is asked for, else that of the complete tape
 abbrev pub last_drawn : Option ℕ → Tape → ℕ
 last_drawn to tape = unwrap_or to (length tape)
 
@@ -30,7 +30,7 @@ pub record AreVersions (from : ℕ) (to : Option ℕ) (tape : Tape) : Type 0 whe
 abbrev pub placing : (own : Bool) → Option (List ℕ) → Option (List ℕ)
 placing own times = if own then None else times
 
--- times are as many as the changes, and do not fall between two versions
+-- the number of times is that of the changes, and they do not fall between two versions
 pub record AreTimes (from last : ℕ) (tape : Tape) (all : List ℕ) : Type 0 where
   pub many : length all ≡ length tape
   pub rise : IsNonDecreasing (between all from last)
@@ -40,7 +40,7 @@ pub record Fits (from : ℕ) (to : Option ℕ) (own : Bool) (times : Option (Lis
   pub versions : AreVersions from to tape
   pub timed : IfSome (placing own times) (AreTimes from (last_drawn to tape) tape)
 
--- why times are refused: there are not as many as changes, or the first that falls
+-- why times are refused: their number is not that of the changes, or the first that falls
 abbrev pub AreWrongTimes : (from last : ℕ) → Option (List ℕ) → Tape → TimesFault → Type 0
 AreWrongTimes from last times tape refused = AreOtherTimes times tape refused
     ⊎ ((all : List ℕ) × (times ≡ Some all) × (length all ≡ length tape) × IsFall (between all from last) from refused)
@@ -49,7 +49,7 @@ AreWrongTimes from last times tape refused = AreOtherTimes times tape refused
 abbrev pub IsPlanText : Listing → List ℕ → Type 0
 IsPlanText roster text = (records : List Record) → AreAllRecords (Some text) records → IsSome (plan_in roster records)
 
--- why the text of a plan is refused: it is that of none, or memory ran out
+-- why the text of a plan is refused: it is not one, or out of memory
 abbrev pub IsPlanFault : Listing → Option (List ℕ) → PlanTextFault → Type 0
 IsPlanFault roster None refused = ⊥
 IsPlanFault roster (Some text) plan_fault.BadPlanText =

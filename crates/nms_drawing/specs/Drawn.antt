@@ -46,7 +46,7 @@ abbrev pub until_of : Option ℕ → ℕ
 until_of None = 18446744073709551615
 until_of (Some time) = since_midnight time
 
--- the executions of a file, and what is found of them; none without a file
+-- the executions of a file, and what is found about them; none without a file
 abbrev pub traded_of : Option Judged → List Execution
 traded_of None = []
 traded_of (Some judged) = judged.records.executions.items
@@ -103,14 +103,14 @@ pub record IsFramedPage (roster : Listing) (tape : Tape) (last : ℕ) (frame : F
   pub framed : IsFramed (length roster.syms) last frame sym window
   pub written : WritesPage roster tape window (sym ∷ []) traded found (shown_plan window sym given) old new
 
--- the page of a symbol's day was written, with the plan of a text, and with executions and what is found of them
+-- the page of a symbol's day was written, with the plan of a text, and with executions and what is found about them
 pub record IsDayPage (settings : Settings) (tape : Tape) (frame : Frame) (sym : ℕ) (plan : Option (List ℕ)) (traded : List Execution)
     (found : List (Option Finding)) (old new : Option (List ℕ)) : Type 0 where
   pub given : Option (Plan × Said)
   pub planned : IsGivenPlan settings tape plan given
   pub page : IsFramedPage settings.roster tape (last_drawn frame.to tape) frame sym given traded found old new
 
--- of a file of changes
+-- the same for a file of changes
 pub record IsFilePage (settings : Settings) (bytes : Option (List ℕ)) (frame : Frame) (sym : ℕ) (plan : Option (List ℕ))
     (old new : Option (List ℕ)) : Type 0 where
   pub tape : Tape
@@ -152,7 +152,7 @@ abbrev pub times_in : Option Timing → Option (List ℕ)
 times_in None = None
 times_in (Some timing) = Some timing.times.now
 
--- a page of the executions of a file shows the whole tape, with times if versions are found by them
+-- a page of the executions of a file shows all of the tape, with times if versions are found by them
 pub record IsOfAll (symbols : ℕ) (tape : Tape) (executions : List Execution) (timing : Option Timing) (asked : Asked)
     (window : Window) : Type 0 where
   pub days : window.days.now ≡ days_among symbols (has_day executions)
@@ -172,7 +172,7 @@ pub record IsTradesPage (roster : Listing) (tape : Tape) (timing : Option Timing
   pub all : IsOfAll (length roster.syms) tape executions timing asked window
   pub page : WritesPage roster tape window (symbols_among (length roster.syms) (has_day executions)) executions found None old new
 
--- of a file of changes and a file of executions
+-- the same for a file of changes and a file of executions
 pub record IsTradesFilePage (settings : Settings) (changes bytes : Option (List ℕ)) (timing : Option Timing) (asked : Asked)
     (old new : Option (List ℕ)) : Type 0 where
   pub tape : Tape

@@ -34,7 +34,7 @@ abbrev pub of_show : ShowFault → DrawingFault
 of_show show_fault.WriteFault = fault.WriteFault
 of_show show_fault.NoMemory = fault.NoMemory
 
--- a stream that was not written whole
+-- a stream that was not written completely
 abbrev pub of_stream : StreamFault → DrawingFault
 of_stream (stream_fault.Changes refused) = fault.Changes refused
 of_stream (stream_fault.Board refused) = fault.Board refused
@@ -61,7 +61,7 @@ is_of_input (fault.Times refused) = true
 is_of_input fault.WriteFault = false
 is_of_input fault.NoMemory = false
 
--- whether a fault is that memory ran out
+-- whether a fault is out of memory
 abbrev pub is_of_memory : DrawingFault → Bool
 is_of_memory (fault.Changes refused) = false
 is_of_memory (fault.Board refused) = true

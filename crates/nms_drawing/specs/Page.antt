@@ -1,5 +1,5 @@
--- A page of a day: the text of each page, with a plain report and the data in it. The data is that of the changes, of the executions
--- with what is found of them, and of the plan. This product's own rule.
+-- A page of a day: the text of each page, with a plain report and the data in it. The data is that of the changes, of the
+-- executions with what is found about them, and of the plan. This product's own rule.
 use Rattle.std.specs.Prelude.{ℕ, ◌≡◌, ◌==◌, ◌++◌, Bool, List, [], ◌∷◌, filter, length, map, replicate, Vec, vec_items, Option, if◌then◌else◌}
 use Rattle.std.specs.List.{flat_map, range_with_len, slice_index_or}
 use Rattle.std.specs.Io.KnownBytes.{Appends}
@@ -46,7 +46,8 @@ day_row window = window.from ∷ window.to ∷ flag_cell window.timed ∷ []
 abbrev pub part_names : Listing → List (List ℕ)
 part_names roster = [] ∷ map (part_text roster) (range_with_len 0 (length roster.parts))
 
--- a page of changes, whose days are those of these symbols, with executions and what is found of them, and with a plan if there is one
+-- a page of changes, whose days are those of these symbols, with executions and what is found about them, and with a plan if
+-- there is one
 pub record IsPage (roster : Listing) (tape : Tape) (window : Window) (symbols : List ℕ) (traded : List Execution)
     (found : List (Option Finding)) (planned : Option (Plan × Said)) (text : List ℕ) : Type 0 where
   pub lists : Lists

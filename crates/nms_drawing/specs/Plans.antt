@@ -39,7 +39,7 @@ abbrev pub quotation_rows : (note : ℕ) → List Quotation → List (List ℕ)
 quotation_rows note [] = []
 quotation_rows note (quotation ∷ rest) = quotation_row note quotation ∷ quotation_rows (note + 1) rest
 
--- of a page that may have one plan, on its first day, with what is said of it
+-- the plans of a page, which may have one, on its first day, with the remarks about it
 abbrev pub plans_of : Window → Option (Plan × Said) → List (List ℕ)
 plans_of window None = []
 plans_of window (Some given) = plan_row window 0 given.0 ∷ []

@@ -106,7 +106,7 @@ on_day rows (Some day) = rows day
 abbrev pub of_symbols : Window → (rows : (day sym : ℕ) → List (List ℕ)) → List ℕ → List (List ℕ)
 of_symbols window rows symbols = flat_map (λ sym. on_day (λ day. rows day sym) (day_of window sym)) symbols
 
--- the rows of a change: of the board before it and the board after it
+-- the rows of a change, by the board before it and the board after it
 abbrev pub best_rows : Window → (was board : Board) → Change → List (List ℕ)
 best_rows window was board change = of_symbols window (best_between window was board) (symbols_of (length window.days.now) change)
 
@@ -133,7 +133,7 @@ shown_changes first last tape = take (last - first) (drop first tape)
 abbrev pub opened_best : Window → (before board : Board) → List (List ℕ)
 opened_best window before board = of_symbols window (best_between window before board) (range_with_len 0 (length window.days.now))
 
--- of each participant its quotations, if it has some
+-- the quotations of each participant, if it has any
 abbrev pub part_if_shown : Window → Board → (day sym part : ℕ) → List (List ℕ)
 part_if_shown window board day sym part =
     if is_some (row_held board sym Bid part) || is_some (row_held board sym Offer part) then part_row window board day sym part ∷ [] else []

@@ -1,5 +1,5 @@
--- The rows of a day's page that come of its executions: each execution of a symbol that has a day on the page, with what is found of
--- it, and the quotations that it traded through. This product's own rule.
+-- The rows of a day's page that come from its executions: each execution of a symbol that has a day on the page, with what is
+-- found about it, and the quotations that it traded through. This product's own rule.
 use Rattle.std.specs.Prelude.{ℕ, ◌+◌, ◌-◌, ◌*◌, ◌==◌, ◌&&◌, Bool, List, [], ◌∷◌, ◌++◌, map, nat_le, true, false, not, Option, Some, None}
 use Rattle.std.specs.Prelude.{if◌then◌else◌}
 use Rattle.nms_quote.specs.declared.side_quote.Side.{Side}
@@ -21,7 +21,7 @@ use Rattle.nms_trades.specs.declared.standing.Standing.TheVariants as standing
 use Rattle.nms_drawing.specs.Rows.{day_of, time_in}
 use Rattle.nms_drawing.specs.declared.rows.Window.{Window}
 
--- an execution on the page, with what is found of it, and its day
+-- an execution on the page, with what is found about it, and its day
 pub record Shown : Type 0 where
   pub execution : Execution
   pub finding : Finding
@@ -39,7 +39,7 @@ is_within window version time = nat_le window.from version && nat_le version win
 abbrev pub is_on_page : Window → Execution → Bool
 is_on_page window execution = not execution.other && is_within window execution.version (time_shown window execution execution.time)
 
--- an execution with what is found of it, if it is judged here, is in the range, and its symbol has a day
+-- an execution with what is found about it, if it is judged here, is in the range, and its symbol has a day
 abbrev pub shown_on : Window → Execution → Finding → Option ℕ → List Shown
 shown_on window execution finding None = []
 shown_on window execution finding (Some day) =

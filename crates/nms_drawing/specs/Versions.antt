@@ -23,13 +23,13 @@ use Rattle.nms_drawing.specs.declared.drawing_fault.DrawingFault.TheVariants as 
 abbrev pub board_of : Sizes → Tape → Board
 board_of sizes tape = fold after (opening sizes) tape
 
--- a file has the changes of a tape, of which a version has a prefix; and as many times, if there are any
+-- a file has the changes of a tape, of which a version has a prefix; and the same number of times, if there are any
 pub record HasVersion (settings : Settings) (bytes times : Option (List ℕ)) (n : ℕ) (tape : Tape) : Type 0 where
   pub file : IsFileTape settings bytes tape
   pub timed : IfSome times (λ all. length all ≡ length tape)
   pub within : n ≤ length tape
 
--- there are times, and not as many as changes
+-- there are times, and their number is not that of the changes
 abbrev pub AreOtherTimes : Option (List ℕ) → Tape → TimesFault → Type 0
 AreOtherTimes times tape refused =
     (all : List ℕ) × (times ≡ Some all) × (length all ≢ length tape) × (refused ≡ times_fault.OtherLength)

@@ -1,4 +1,4 @@
-//! Each participant's quotations along the changes, as JSON objects: after each change, those that it may alter.
+//! Each participant's quotations along the changes, as JSON objects. After each change, those that it may alter are written.
 ghost use Rattle.std.specs.Prelude.{◌≡◌, ◌<◌, ◌≤◌, IfErr, false, length, true};
 ghost use Rattle.std.specs.List.{list_all};
 ghost use Rattle.nms_quote.specs.Roster.{holds};
@@ -18,16 +18,16 @@ use nms_times::{TimeOfDay, Times};
 use std::alloc::Global;
 use std::io::Write;
 
-/// How many members an object has, with a time.
+/// How many members an object has if it has a time.
 const MEMBERS: usize = 12;
 
-/// Whose quotations are written, and with which times.
+/// The symbols whose quotations are written, and the times that go with them.
 #[derive(Clone, Copy)]
 pub(crate) struct Wanted<'a> {
     pub(crate) alloc: Global,
     pub(crate) tape: &'a Tape<'a>,
     pub(crate) times: Option<&'a Times>,
-    /// Without one all symbols are written.
+    /// The symbol; without one all symbols are written.
     pub(crate) sym: Option<Sym>,
 }
 
@@ -41,7 +41,7 @@ struct Quotation {
     offer: Option<Row>,
 }
 
-/// Writes the quotations of a tape: after each change, those that it may alter.
+/// Writes the quotations of a tape. After each change it writes those that the change may alter.
 pub(crate) fn write_boards<W: Write>(
     wanted: &Wanted<'_>,
     answers: &mut W,
@@ -59,7 +59,7 @@ pub(crate) fn write_boards<W: Write>(
     Ok(())
 }
 
-/// Writes the quotations that the last change of a board may alter: a withdrawal may do so in every symbol.
+/// Writes the quotations that the last change of a board may alter. A withdrawal may alter some in every symbol.
 fn write_change<W: Write>(
     wanted: &Wanted<'_>,
     board: &Boards,
@@ -95,7 +95,7 @@ fn write_symbols<W: Write>(
     Ok(())
 }
 
-/// Writes the quotations in a symbol that a change may alter, if the symbol is asked for.
+/// Whether a symbol is asked for. It is if it is the only one, or if all are.
 fn write_symbol<W: Write>(
     wanted: &Wanted<'_>,
     board: &Boards,

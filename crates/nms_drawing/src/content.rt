@@ -36,7 +36,7 @@ fn day_if_same(sym: Sym, place: usize) -> Option<u64>
     }
 }
 
-/// The executions of a file; none without one.
+/// The executions of a file; none if there is no file.
 pub(crate) fn executions_of<'a>(judged: Option<&'a Judged>) -> &'a [Execution]
     ensures { result.now ≡ traded_of (option_copied judged.entry) }
 {
@@ -46,7 +46,7 @@ pub(crate) fn executions_of<'a>(judged: Option<&'a Judged>) -> &'a [Execution]
     }
 }
 
-/// What is found of the executions.
+/// What was found about the executions.
 pub(crate) fn findings_of<'a>(judged: Option<&'a Judged>) -> &'a [Option<Finding>]
     ensures { result.now ≡ found_of (option_copied judged.entry) }
 {
@@ -81,7 +81,7 @@ fn others_in(executions: &[Execution]) -> u64 {
 /// The symbols of executions.
 #[derive(Drop)]
 pub(crate) struct Traded {
-    /// Of each symbol of the roster its day, if it has one.
+    /// The day of each symbol of the roster, if it has one.
     pub(crate) days: Vec<Option<u64>>,
     /// The symbols that have a day, in the order of the days.
     pub(crate) symbols: Vec<Sym>,

@@ -30,33 +30,34 @@ pub struct Frame<'a> {
     pub to: Option<u64>,
     /// Whether the page counts versions, although there are times.
     pub own: bool,
-    /// The times of the changes, for an axis of clock time. Those between the versions that are shown may not fall.
+    /// The times of the changes, for an axis of clock time. The times between the shown versions may not fall.
     pub times: Option<&'a Times>,
     /// The version before the symbol's first change, in a file sorted by symbol; else 0. It has no time.
     pub opening: u64,
-    /// The time at which the page begins, if one was given: executions before it are not shown.
+    /// The time at which the page begins, if one was given. Executions before it are not shown.
     pub since: Option<TimeOfDay>,
-    /// The time at which it ends, if one was given: executions after it are not shown.
+    /// The time at which it ends, if one was given. Executions after it are not shown.
     pub until: Option<TimeOfDay>,
-    /// Whether the page has best quotations only, and no boards.
+    /// Whether the page has only best quotations, and no boards.
     pub bests: bool,
 }
 
-/// What the page says that it was made of.
+/// What the page says about its sources.
 #[derive(Clone, Copy)]
 pub struct About<'a> {
-    /// Pairs: a key, its text.
+    /// Pairs of a key and its text.
     pub pairs: &'a [&'a [u8]],
     /// The name of the plan.
     pub plan: &'a str,
 }
 
-/// Writes the page of a symbol's day along a file of changes: its best bid and best offer, and the boards. It also shows the plan of a
-/// text on its version, with its verdict and the quotations that it passed over. A plan on another symbol, or on a version that is
-/// not shown, is named and not shown.
+/// Writes the page of a symbol's day along a file of changes: its best bid and best offer, and the boards. It also shows the
+/// plan of a text on its version, with its verdict and the quotations that it passed over. A plan on another symbol, or on a
+/// version that is not shown, is named and not shown.
 ///
-/// `VersionBeyondTape` if the file has fewer changes than the versions that are shown. `Times` if the times are not as many, or fall
-/// between those versions. A fault of the changes, of the times or of the plan's text leaves nothing written. It is not flushed.
+/// `VersionBeyondTape` if the file has fewer changes than the versions that are shown. `Times` if the number of times is
+/// another, or they fall between those versions. After a fault of the changes, of the times or of the plan's text nothing is
+/// written. The page is not flushed.
 pub fn draw_changes<R: Read + Drop, W: Write>(
     alloc: Global,
     setup: &Setup,
@@ -153,7 +154,7 @@ fn last_of(tape: &Tape<'_>, frame: &Frame<'_>) -> Result<u64, DrawingFault>
     Ok(to)
 }
 
-/// Writes the page of a day, with a plan and what is said of it.
+/// Writes the page of a day, with a plan and the remarks about it.
 fn draw_on<W: Write>(
     alloc: Global,
     tape: &Tape<'_>,
@@ -211,7 +212,7 @@ fn until_of(frame: &Frame<'_>) -> u64
     }
 }
 
-/// Writes the page of what a window shows.
+/// Writes the page that a window shows.
 fn draw_window<W: Write>(
     alloc: Global,
     tape: &Tape<'_>,
@@ -255,27 +256,27 @@ fn draw_window<W: Write>(
 /// Whether a page shows a plan.
 #[derive(Clone, Copy)]
 enum PlanState {
-    /// There is none.
+    /// There is no plan.
     Nothing,
-    /// It is shown.
+    /// The plan is shown.
     Shown,
-    /// It is of another symbol.
+    /// The plan is of another symbol.
     OtherSymbol,
-    /// The file does not have its version.
+    /// The file does not have the plan's version.
     LaterVersion,
-    /// The page does not show its version.
+    /// The page does not show the plan's version.
     OtherVersion,
 }
 
 impl PlanState {
-    /// Whether a page shows it.
+    /// Whether the page shows the plan.
     fn is_shown(self) -> bool
         ensures { result ≡ is_shown_state self }
     {
         matches!(self, PlanState::Shown)
     }
 
-    /// A sentence about it.
+    /// A sentence about the plan.
     fn sentence(self) -> &'static str {
         match self {
             PlanState::Nothing | PlanState::Shown => "",
@@ -302,7 +303,7 @@ fn state_of(plan: Option<(&Plan, &Said)>, window: &Window<'_>, sym: Sym) -> Plan
     }
 }
 
-/// The pairs that a page says it was made of, with the state of a plan that is not shown.
+/// The pairs that say what a page was made from, with the state of a plan that is not shown.
 fn pairs_of<'a>(
     alloc: Global,
     about: &About<'a>,

@@ -1,4 +1,4 @@
-//! Why an answer was not written whole: `specs/Faults`.
+//! Why an answer was not written completely: `specs/Faults`.
 ghost use Rattle.nms_codes.specs.Codes.{IsToldAs};
 ghost use Rattle.nms_drawing.specs.Faults.{code_of, status_of};
 
@@ -12,7 +12,7 @@ use nms_times::TimesFault;
 use std::fmt;
 use thiserror::Error;
 
-/// Why an answer was not written whole.
+/// Why an answer was not written completely.
 #[derive(Clone, Copy, Debug, PartialEq, Eq, Error)]
 pub enum DrawingFault {
     /// The file of changes is no tape. Nothing was written.
@@ -21,7 +21,7 @@ pub enum DrawingFault {
     Board(BoardFault),
     /// A1: there are fewer changes than the version has. Nothing was written.
     VersionBeyondTape,
-    /// L11 or L12: the text is no plan, or memory ran out. Nothing was written.
+    /// L11 or L12: the text is no plan, or out of memory. Nothing was written.
     Plan(PlanTextFault),
     /// H3: the number of times is not that of the changes. Nothing was written.
     Times(TimesFault),

@@ -1,4 +1,4 @@
-//! A day's executions: on the page of a day, and on a page of their own.
+//! A day's executions: on the page of a day, and on their own page.
 mod judged;
 mod on_page;
 mod page_fault;

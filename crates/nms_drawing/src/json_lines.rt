@@ -1,4 +1,4 @@
-//! Lines of a stream as JSON objects: the JSON says what the proved stream says, line by line.
+//! Lines of a stream as JSON objects. The JSON says what the proved stream says, line by line.
 use nms_show::{Item, ShowFault, write_object};
 use std::alloc::Global;
 use std::io::Write;
@@ -30,7 +30,7 @@ pub(crate) fn write_fields<W: Write>(
     write_object(alloc, answers, &members[..shown])
 }
 
-/// The fields of a line, each with its column, and last a time.
+/// The fields of a line, each with its column, and a time at the end.
 fn members_of<'a>(line: &'a [u8], time: &'a [u8]) -> [(&'static str, Item<'a>); 11] {
     let mut members = [("", Item::Absent); 11];
     members[0] = ("what", Item::Text("line"));
@@ -45,7 +45,7 @@ fn members_of<'a>(line: &'a [u8], time: &'a [u8]) -> [(&'static str, Item<'a>); 
     members
 }
 
-/// The first field of a line, and what stands after its comma.
+/// The first field of a line, and the text after its comma.
 pub(crate) fn field_of(line: &[u8]) -> (&[u8], &[u8]) {
     match line.iter().position(|byte| *byte == b',') {
         Some(end) => (&line[..end], &line[end + 1..]),
@@ -53,7 +53,7 @@ pub(crate) fn field_of(line: &[u8]) -> (&[u8], &[u8]) {
     }
 }
 
-/// A field as its column has it, `null` if it is empty.
+/// A field as its column has it; `null` if it is empty.
 fn item_in(field: &[u8], is_number: bool) -> Item<'_> {
     if is_number {
         number_in(field)
@@ -62,7 +62,7 @@ fn item_in(field: &[u8], is_number: bool) -> Item<'_> {
     }
 }
 
-/// A field as a text, `null` if it is empty.
+/// A field as a text; `null` if it is empty.
 fn text_in(field: &[u8]) -> Item<'_> {
     if field.is_empty() {
         Item::Absent
@@ -71,7 +71,7 @@ fn text_in(field: &[u8]) -> Item<'_> {
     }
 }
 
-/// A field as a number, `null` if it is empty.
+/// A field as a number; `null` if it is empty.
 fn number_in(field: &[u8]) -> Item<'_> {
     match str::from_utf8(field) {
         Ok(text) => match text.parse::<u64>() {

@@ -1,5 +1,5 @@
-//! The changes of a day for people: at a version, as its opening changes, as a stream, and as a page; and its executions, on the page
-//! of a day and on a page of their own.
+//! The changes of a day for people: at a version, as its opening changes, as a stream, and as a page. Also the day's
+//! executions, on the page of a day and on their own page.
 #![tactic(auto)]
 
 mod boards_lines;

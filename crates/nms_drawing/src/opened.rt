@@ -18,10 +18,10 @@ use nms_show::Ending;
 use std::alloc::{AllocError, Global};
 use std::io::{Read, Write};
 
-/// Writes the opening changes of version n, the first n changes of a file, as a file of changes. A new board that takes
-/// them shows what the version shows, with new receipts in the same order.
+/// Writes the opening changes of version n, the first n changes of a file, as a file of changes. A new board that takes them
+/// shows what the version shows, with new receipts in the same order.
 ///
-/// If the file has fewer changes it is `VersionBeyondTape`, and nothing is written. It is not flushed.
+/// `VersionBeyondTape` if the file has fewer changes; then nothing is written. It is not flushed.
 pub fn write_opening<R: Read + Drop, W: Write>(
     alloc: Global,
     setup: &Setup,

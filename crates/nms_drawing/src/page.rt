@@ -30,27 +30,27 @@ use nms_verdicts::Said;
 use std::alloc::{AllocError, Global};
 use std::io::Write;
 
-/// What a page is made of.
+/// The content from which a page is made.
 #[derive(Clone, Copy)]
 pub(crate) struct Content<'a> {
     pub(crate) tape: &'a Tape<'a>,
     pub(crate) window: &'a Window<'a>,
     /// The symbols that have a day, in the order of the days.
     pub(crate) symbols: &'a [Sym],
-    /// Executions, each with what is found of it.
+    /// Executions, each with what was found about it.
     pub(crate) executions: &'a [Execution],
     pub(crate) findings: &'a [Option<Finding>],
-    /// The records that are refused, and the executions that other shards judge; nothing without executions.
+    /// The records that are refused, and the executions that other shards judge. Empty without executions.
     pub(crate) aside: &'a [[u64; 2]],
-    /// A plan of the first day, and what is said of it.
+    /// A plan of the first day, and the remarks about it.
     pub(crate) plan: Option<(&'a Plan, &'a Said)>,
     /// The name of the plan.
     pub(crate) name: &'a str,
-    /// What else it was made of, by pairs: a key, its text.
+    /// What else the page was made from: pairs of a key and its text.
     pub(crate) about: &'a [&'a [u8]],
 }
 
-/// The text of a page. Its only fault is that no board was made, or out of memory.
+/// The text of a page. It fails only if no board was made, or if out of memory.
 pub(crate) fn page_of(alloc: Global, content: &Content<'_>) -> Result<Vec<u8>, BoardFault>
     requires days { length content.now.window.now.days.now ≡ length content.now.tape.now.roster.now.syms }
     requires order { content.now.window.now.from ≤ content.now.window.now.to }
@@ -158,7 +158,7 @@ fn add_causes<'a>(names: &mut Vec<&'a [u8]>) -> Result<(), AllocError> {
     Ok(())
 }
 
-/// Adds the names of symbols to none.
+/// Adds the names of symbols to an empty list.
 fn add_symbols<'a>(
     names: &mut Vec<&'a [u8]>,
     roster: &'a Roster,
@@ -173,7 +173,7 @@ fn add_symbols<'a>(
     Ok(())
 }
 
-/// Adds an empty text and the names of participants to none.
+/// Adds an empty text and the names of participants to an empty list.
 fn add_parts<'a>(names: &mut Vec<&'a [u8]>, roster: &'a Roster) -> Result<(), AllocError>
     requires { names.old.items ≡ [] }
     ensures { OnOk result (map (λ name. name.now) names.new.items ≡ part_names roster.now) }
@@ -272,7 +272,7 @@ fn tables_with<'l, 't>(
     }
 }
 
-/// These rows, unless they are not wanted.
+/// These rows, or none if they are not wanted.
 fn unless<'x>(is_unwanted: bool, rows: &'x [[u64; 11]]) -> &'x [[u64; 11]]
     ensures { result.now ≡ (if is_unwanted then [] else rows.now) }
 {
@@ -333,7 +333,7 @@ fn append_page(text: &mut Vec<u8>, report: &[u8], json: &[u8]) -> Result<(), All
     Ok(())
 }
 
-/// Writes a page. A fault leaves nothing written, but for `WriteFault`.
+/// Writes a page. After any fault but `WriteFault` nothing is written.
 pub(crate) fn write_content<W: Write>(
     alloc: Global,
     content: &Content<'_>,

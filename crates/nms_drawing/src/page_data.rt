@@ -10,7 +10,7 @@ use std::alloc::AllocError;
 /// The lists of texts of a page.
 #[derive(Clone, Copy)]
 pub(crate) struct Lists<'l, 't> {
-    /// What the page was made of, by pairs: a key, its text.
+    /// The pairs of a key and its text that say what the page was made from.
     pub(crate) about: &'l [&'t [u8]],
     pub(crate) symbols: &'l [&'t [u8]],
     /// The participants, after an empty text.

@@ -1,4 +1,4 @@
-//! Lines of a stream, passed on: a writer that takes the stream, and passes each line on as an object, or with its time.
+//! Passing on lines of a stream: a writer that takes the stream, and passes each line on as an object, or with its time.
 use crate::json_lines::{field_of, write_fields};
 use nms_show::{Form, ShowFault};
 use nms_times::{TimeOfDay, Times};
@@ -6,10 +6,10 @@ use std::alloc::Global;
 use std::io::{Error, ErrorKind, Result, Write};
 use std::{mem, str};
 
-/// The name of the column of times.
+/// The end of the header, with the name of the column of times.
 const HEAD: &[u8] = b",time\n";
 
-/// A writer of a stream whose lines are passed on as objects; or with their times, as they are or as objects.
+/// A writer of a stream whose lines are passed on as objects. Or they are passed on with their times, as they are or as objects.
 #[derive(Drop)]
 pub(crate) struct PassedLines<'a, W> {
     alloc: Global,
@@ -24,7 +24,7 @@ pub(crate) struct PassedLines<'a, W> {
 }
 
 impl<'a, W: Write> PassedLines<'a, W> {
-    /// One that has taken nothing.
+    /// A writer that has taken nothing.
     pub(crate) fn new(
         alloc: Global,
         times: Option<&'a Times>,
@@ -42,12 +42,12 @@ impl<'a, W: Write> PassedLines<'a, W> {
         }
     }
 
-    /// Whether a write failed because memory ran out.
+    /// Whether a write failed because it was out of memory.
     pub(crate) fn wants_memory(&self) -> bool {
         self.wants_memory
     }
 
-    /// Takes a piece of the stream: a line's rest with its end, or the beginning of one.
+    /// Takes a piece of the stream, which is the rest of a line with its end, or the beginning of a line.
     fn take(&mut self, piece: &[u8]) -> std::result::Result<(), ShowFault> {
         let Some((b'\n', rest)) = piece.split_last() else {
             return self.keep(piece);
@@ -94,7 +94,7 @@ impl<'a, W: Write> PassedLines<'a, W> {
         self.put(b"\n")
     }
 
-    /// Passes the header on; objects have none.
+    /// Passes the header on. Objects have none.
     fn tell_header(&mut self, line: &[u8]) -> std::result::Result<(), ShowFault> {
         if self.form.is_json() {
             return Ok(());
@@ -136,7 +136,7 @@ fn time_of(times: &Times, line: &[u8]) -> Option<TimeOfDay> {
     times.time_of(version_of(line)?)
 }
 
-/// The version of a line, its first field.
+/// The version of a line, which is its first field.
 fn version_of(line: &[u8]) -> Option<u64> {
     str::from_utf8(field_of(line).0).ok()?.parse::<u64>().ok()
 }

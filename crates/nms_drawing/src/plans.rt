@@ -1,4 +1,4 @@
-//! The rows of a page that come of a plan (`specs/Plans`).
+//! The rows of a page that come from a plan (`specs/Plans`).
 ghost use Rattle.std.specs.Prelude.{◌≡◌, ◌∷◌, [], map, IfOk, OnOk};
 ghost use Rattle.nms_drawing.specs.Plans.{flag_cell, leg_row, leg_rows, order_cell, plan_row, quotation_row, quotation_rows};
 
@@ -13,13 +13,13 @@ pub(crate) struct PlanRows<'a> {
     pub(crate) plans: Vec<[u64; 9]>,
     pub(crate) legs: Vec<[u64; 4]>,
     pub(crate) quotations: Vec<[u64; 8]>,
-    /// The lines that are said of it.
+    /// The remarks about the plan, a row for each line.
     pub(crate) said: Vec<[u64; 3]>,
     /// The texts, after an empty one.
     pub(crate) words: Vec<&'a [u8]>,
 }
 
-/// No rows.
+/// The rows if there is no plan.
 pub(crate) fn no_plan<'a>(alloc: Global) -> PlanRows<'a>
     ensures plans { result.plans.items ≡ [] }
     ensures legs { result.legs.items ≡ [] }
@@ -54,7 +54,7 @@ pub(crate) fn plan_rows<'a>(
     }
 }
 
-/// Adds the rows of a plan to none.
+/// Adds the rows of a plan to empty lists.
 fn add_plan<'a>(
     rows: &mut PlanRows<'a>,
     window: &Window<'_>,
@@ -107,7 +107,7 @@ fn order_cell(side: OrderSide) -> u64
     }
 }
 
-/// Adds the rows of legs to none.
+/// Adds the rows of legs to an empty list.
 fn add_legs(rows: &mut Vec<[u64; 4]>, legs: &[Leg]) -> Result<(), AllocError>
     requires { rows.old.items ≡ [] }
     ensures { OnOk result (rows.new.items ≡ map leg_row legs.now) }
@@ -130,7 +130,7 @@ fn leg_row(leg: &Leg) -> [u64; 4]
     ]
 }
 
-/// Adds the rows of quotations to none. Their notes are texts 3 and following.
+/// Adds the rows of quotations to an empty list. Their notes are texts 3 and following.
 fn add_quotations(rows: &mut Vec<[u64; 8]>, quotations: &[Quotation]) -> Result<(), AllocError>
     requires { rows.old.items ≡ [] }
     ensures { OnOk result (rows.new.items ≡ quotation_rows 3 quotations.now) }
@@ -176,7 +176,7 @@ fn add_words<'a>(
     Ok(())
 }
 
-/// Adds the lines of a text, each as a text of its own, without the spaces that it begins with.
+/// Adds each line of a text as a separate text, without the spaces at its beginning.
 fn add_lines<'a>(
     said: &mut Vec<[u64; 3]>,
     words: &mut Vec<&'a [u8]>,

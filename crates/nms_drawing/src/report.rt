@@ -1,5 +1,5 @@
-//! The plain report of a page, for a reader without JavaScript: what the page was made of, what is said of a plan, and the first
-//! executions that are flagged. It is HTML of the program's own; all other text in it is escaped.
+//! The plain report of a page, for a reader without JavaScript. It has what the page was made from, the remarks about a plan,
+//! and the first executions that are flagged. Its HTML is the program's, and all other text in it is escaped.
 ghost use Rattle.std.specs.Prelude.{◌<◌};
 
 use crate::page_data::{Lists, Tables};
@@ -25,7 +25,7 @@ pub(crate) fn append_report(
     append_flagged(out, lists, tables)
 }
 
-/// Appends the symbols, and what the page was made of.
+/// Appends the symbols, and what the page was made from.
 fn append_about(out: &mut Vec<u8>, lists: &Lists<'_, '_>) -> Result<(), AllocError> {
     out.extend_from_slice(b"<p>")?;
     append_joined(out, lists.symbols, 1)?;
@@ -47,7 +47,7 @@ fn append_joined(out: &mut Vec<u8>, texts: &[&[u8]], each: usize) -> Result<(), 
     Ok(())
 }
 
-/// Appends how many lines and executions there are, and how many of these are flagged.
+/// Appends how many lines and executions there are, and how many executions are flagged.
 fn append_counts(out: &mut Vec<u8>, tables: &Tables<'_>) -> Result<(), AllocError> {
     out.extend_from_slice(b"<p>")?;
     append_many(out, tables.lines.len(), b" line")?;
@@ -58,7 +58,7 @@ fn append_counts(out: &mut Vec<u8>, tables: &Tables<'_>) -> Result<(), AllocErro
     out.extend_from_slice(b" flagged.</p>")
 }
 
-/// Appends how many of a thing there are, by the word for one.
+/// Appends how many things of a kind there are, by the word for one.
 fn append_many(out: &mut Vec<u8>, many: usize, word: &[u8]) -> Result<(), AllocError> {
     append_decimal(out, many as u64)?;
     out.extend_from_slice(word)?;
@@ -80,7 +80,7 @@ fn flagged_in(executions: &[[u64; 13]]) -> u64 {
     flagged
 }
 
-/// Appends what is said of a plan, a paragraph each.
+/// Appends the remarks about a plan, a paragraph each.
 fn append_said(
     out: &mut Vec<u8>,
     lists: &Lists<'_, '_>,
@@ -193,7 +193,7 @@ fn digit(number: u64, unit: u64) -> u8
     b'0' + (number / unit % 10) as u8
 }
 
-/// Appends a text as HTML: a character that HTML would read as its own is escaped.
+/// Appends a text as HTML. Characters that have a meaning in HTML are escaped.
 fn append_escaped(out: &mut Vec<u8>, text: &[u8]) -> Result<(), AllocError> {
     for byte in text {
         match *byte {

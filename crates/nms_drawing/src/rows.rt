@@ -1,4 +1,4 @@
-//! The rows of a page that come of the changes (`specs/Rows`).
+//! The rows of a page that come from the changes (`specs/Rows`).
 ghost use Rattle.std.specs.Prelude.{◌≡◌, ◌+◌, ◌<◌, ◌≤◌, ◌++◌, ◌∷◌, [], All, length, true, IfOk, OnOk};
 ghost use Rattle.std.specs.List.{flat_map, range_with_len};
 ghost use Rattle.nms_quote.specs.Roster.{holds};
@@ -12,10 +12,10 @@ use nms_stream::{Quoted, Tape, quoted_on};
 use nms_times::{TimeOfDay, Times};
 use std::alloc::{AllocError, Global};
 
-/// What a page shows.
+/// The part of a day that a page shows.
 #[derive(Clone, Copy)]
 pub(crate) struct Window<'a> {
-    /// Of each symbol of the roster its day on the page, if it has one.
+    /// The day on the page of each symbol of the roster, if it has one.
     pub(crate) days: &'a [Option<u64>],
     /// The times of the versions.
     pub(crate) times: Option<&'a Times>,
@@ -27,9 +27,9 @@ pub(crate) struct Window<'a> {
     /// The first time and the last one at which executions are shown, in nanoseconds since midnight.
     pub(crate) since: u64,
     pub(crate) until: u64,
-    /// Whether the page counts times and not versions.
+    /// Whether the page counts times instead of versions.
     pub(crate) timed: bool,
-    /// Whether the page leaves out the boards, and has best quotations only.
+    /// Whether the page leaves out the boards, and has only best quotations.
     pub(crate) bests: bool,
 }
 
@@ -44,7 +44,7 @@ impl Window<'_> {
         }
     }
 
-    /// The time of a version in nanoseconds since midnight, 0 if it has none.
+    /// The time of a version in nanoseconds since midnight; 0 if it has none.
     pub(crate) fn time_of(&self, version: u64) -> u64
         ensures { result ≡ time_in self.now version }
     {
@@ -55,7 +55,7 @@ impl Window<'_> {
     }
 }
 
-/// A time in nanoseconds since midnight, 0 if there is none.
+/// A time in nanoseconds since midnight; 0 if there is none.
 fn nanoseconds_in(time: Option<TimeOfDay>) -> u64
     ensures { result ≡ nanoseconds_in time }
 {
@@ -73,7 +73,7 @@ pub(crate) struct Step<'a> {
     pub(crate) change: &'a Change,
 }
 
-/// The rows of the tables that come of the changes.
+/// The rows of the tables that come from the changes.
 #[derive(Drop)]
 pub(crate) struct Rows {
     /// The best quotations.
@@ -138,7 +138,7 @@ fn add_all(
     add_changes(rows, window, was, board, changes)
 }
 
-/// Adds what is in force on a board, which is not the opening one.
+/// Adds what is in force on a board, unless it is the opening one.
 fn add_opened(
     rows: &mut Rows,
     window: &Window<'_>,
@@ -158,7 +158,7 @@ fn add_opened(
     Ok(())
 }
 
-/// Adds what is in force of a symbol, if it has a day.
+/// Adds what is in force for a symbol, if it has a day.
 fn add_opened_symbol(
     rows: &mut Rows,
     window: &Window<'_>,
@@ -187,7 +187,7 @@ fn add_opened_symbol(
     }
 }
 
-/// Adds the quotations of each participant that has some.
+/// Adds the quotations of each participant that has any.
 fn add_shown_parts(
     rows: &mut Vec<[u64; 11]>,
     window: &Window<'_>,
@@ -204,7 +204,7 @@ fn add_shown_parts(
     Ok(())
 }
 
-/// Adds the quotations of a participant, if it has some.
+/// Adds the quotations of a participant, if it has any.
 fn add_part_if_shown(
     rows: &mut Vec<[u64; 11]>,
     window: &Window<'_>,
@@ -224,7 +224,7 @@ fn add_part_if_shown(
     Ok(())
 }
 
-/// Adds the rows of changes. Both boards are the one before them.
+/// Adds the rows of changes. Both boards are in the state before the changes.
 fn add_changes(
     rows: &mut Rows,
     window: &Window<'_>,
@@ -325,7 +325,7 @@ fn add_symbol(
     }
 }
 
-/// Adds the best quotations of a symbol, if they look otherwise than before.
+/// Adds the best quotations of a symbol, if they do not look as before.
 fn add_best(
     best: &mut Vec<[u64; 9]>,
     window: &Window<'_>,
@@ -436,7 +436,7 @@ fn part_row(window: &Window<'_>, board: &Boards, day: u64, sym: Sym, part: Part)
     ]
 }
 
-/// The price and the displayed shares of a quotation, and for how many versions it has been so.
+/// The price and the displayed shares of a quotation, and how many versions ago it became so.
 fn side_cells(version: u64, row: &Option<Row>) -> [u64; 3]
     ensures { result ≡ side_cells version row.now }
 {

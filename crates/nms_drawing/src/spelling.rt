@@ -1,4 +1,4 @@
-//! How a page spells a table of whole numbers: a text for each column (`specs/Spelling`).
+//! How a page writes a table of whole numbers: a text for each column (`specs/Spelling`).
 ghost use Rattle.std.specs.Prelude.{◌≡◌, ◌+◌, ◌<◌, ◌≤◌, ◌^◌, ◌==◌, ◌++◌, length, map, OnOk};
 ghost use Rattle.std.specs.Fmt.{decimal};
 ghost use Rattle.std.specs.List.{list_all};
@@ -49,7 +49,7 @@ pub(crate) fn append_table<const N: usize>(
     Ok(())
 }
 
-/// Appends a number to the base 10.
+/// Appends a number in base 10.
 pub(crate) fn append_decimal(out: &mut Vec<u8>, number: u64) -> Result<(), AllocError>
     ensures { OnOk result (out.new.items ≡ out.old.items ++ decimal number) }
 {
@@ -93,7 +93,7 @@ fn append_column<const N: usize>(
     append_steps(out, rows, place, UNITS[usize::from(exponent)])
 }
 
-/// Whether a column is 0 in each row.
+/// The greatest power of ten of which all values of a column are multiples, by its exponent.
 fn is_nothing<const N: usize>(rows: &[[u64; N]], place: usize) -> bool
     requires { place < N }
     ensures { result ≡ list_all (λ value. value == 0) (column_at place rows.now) }

@@ -1,4 +1,4 @@
-//! The stream of a file in the requested form: `specs/Streamed`.
+//! Writing the stream of a file in the requested form: `specs/Streamed`.
 ghost use Rattle.std.specs.Prelude.{◌≡◌, ◌<◌, IfErr, IfSome, None, OnOk, false, length, option_copied, true};
 ghost use Rattle.nms_lines.specs.Written.{WritesPart};
 ghost use Rattle.nms_show.specs.Safe.{IsSafe};
@@ -18,11 +18,11 @@ use nms_times::Times;
 use std::alloc::Global;
 use std::io::{Read, Write};
 
-/// Streams the changes of a file: as the proved stream writes it, or each of its lines as a JSON object. An object has the
-/// names of the columns as keys, numbers as numbers and prices as texts, `null` if a side has none. With times each line has
-/// that of its version, last.
+/// Streams the changes of a file as the proved stream writes it, or each of its lines as a JSON object. An object has the names
+/// of the columns as keys, numbers as numbers and prices as texts, and `null` if a side has none. If there are times, each line
+/// ends with that of its version.
 ///
-/// `Changes` and `Times` leave nothing written. It is not flushed.
+/// After `Changes` or `Times` nothing is written. The stream is not flushed.
 pub fn stream_changes<R: Read + Drop, W: Write>(
     alloc: Global,
     setup: &Setup,
@@ -100,10 +100,10 @@ fn stream_lines<R: Read + Drop, W: Write>(
     }
 }
 
-/// Streams each participant's quotations as JSON objects: after each change, those that it may alter. With times each object has
-/// that of its version, last.
+/// Streams each participant's quotations as JSON objects. After each change it writes those that the change may alter. If there
+/// are times, each object ends with that of its version.
 ///
-/// `Changes` and `Times` leave nothing written. It is not flushed.
+/// After `Changes` or `Times` nothing is written. The stream is not flushed.
 pub fn stream_boards<R: Read + Drop, W: Write>(
     alloc: Global,
     setup: &Setup,
@@ -135,7 +135,7 @@ pub fn stream_boards<R: Read + Drop, W: Write>(
     }
 }
 
-/// Why a stream that a writer passed on was not written whole: memory, if that is why the writer failed.
+/// Why a stream that a writer passed on was not written completely. It is out of memory, if that is why the writer failed.
 fn passed_on(fault: StreamFault, wants_memory: bool) -> DrawingFault
     ensures { is_of_input result ≡ is_of_file fault }
 {

@@ -1,4 +1,4 @@
-//! How a page spells lists of texts (`specs/Texts`).
+//! How a page writes lists of texts (`specs/Texts`).
 ghost use Rattle.std.specs.Prelude.{◌≡◌, ◌<◌, ◌≤◌, ◌++◌, ℕ, List, map, true, OnOk};
 ghost use Rattle.std.specs.Char.{digit_char};
 ghost use Rattle.std.specs.List.{list_all};
@@ -58,7 +58,7 @@ fn append_byte(text: &mut Vec<u8>, byte: u8) -> Result<(), AllocError>
     text.extend_from_slice(&[byte])
 }
 
-/// Appends JSON as the data of a page: no byte of it is `<`.
+/// Appends JSON as the data of a page, so that no byte of it is `<`.
 pub(crate) fn append_data(out: &mut Vec<u8>, json: &[u8]) -> Result<(), AllocError>
     ensures { OnOk result (out.new.items ≡ out.old.items ++ data_text json.now) }
 {

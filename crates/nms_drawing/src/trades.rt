@@ -1,4 +1,4 @@
-//! The rows of a page that come of its executions (`specs/Trades`).
+//! The rows of a page that come from its executions (`specs/Trades`).
 ghost use Rattle.std.specs.Prelude.{◌≡◌, ◌++◌, ◌∷◌, [], ◌≤◌, ℕ, length, map, IfOk, OnOk, if◌then◌else◌};
 ghost use Rattle.nms_trades.specs.Sums.{is_helped};
 ghost use Rattle.nms_drawing.specs.Trades.{Shown, causes_number, causes_shown, counted, execution_row, execution_rows, ids_of, is_cause, is_flagged, is_on_page, kind_of, offer_cell, own_cell, part_cell, passed_cells, passed_from, passed_rows, passed_rows_from, shown_if, shown_of, side_of, time_shown};
@@ -20,7 +20,7 @@ pub(crate) struct TradeRows<'a> {
     pub(crate) ids: Vec<&'a [u8]>,
 }
 
-/// The rows of the executions that are on a page, each with what is found of it.
+/// The rows of the executions that are on a page, each with what was found about it.
 pub(crate) fn trade_rows<'a>(
     alloc: Global,
     window: &Window<'_>,
@@ -43,7 +43,7 @@ pub(crate) fn trade_rows<'a>(
     }
 }
 
-/// Adds the rows of executions to none.
+/// Adds the rows of executions to empty lists.
 fn add_all<'a>(
     rows: &mut TradeRows<'a>,
     window: &Window<'_>,
@@ -86,7 +86,7 @@ fn add_one<'a>(
     }
 }
 
-/// Whether an execution is judged here and in the range that is shown.
+/// Whether an execution is judged here and is in the range that is shown.
 fn is_on_page(window: &Window<'_>, execution: &Execution) -> bool
     ensures { result ≡ is_on_page window.now execution.now }
 {
@@ -248,7 +248,7 @@ fn causes_shown(execution: &Execution, finding: &Finding, sums: &Sums) -> u64
     causes_number(execution, finding, sums)
 }
 
-/// The causes that apply, as a number: the first one counts 1, the next one 2, and so on.
+/// The causes that apply, as a number. The first cause counts 1, the next one 2, and so on.
 fn causes_number(execution: &Execution, finding: &Finding, sums: &Sums) -> u64
     ensures { result ≡ causes_number execution.now finding.now sums.now }
 {
@@ -313,7 +313,7 @@ fn passed_cells(
     ]
 }
 
-/// 1 for an offer.
+/// 1 for an offer, 0 for a bid.
 fn offer_cell(side: Side) -> u64
     ensures { result ≡ offer_cell side }
 {
@@ -323,7 +323,7 @@ fn offer_cell(side: Side) -> u64
     }
 }
 
-/// 1 for a quotation of the participant where an execution was made.
+/// 1 for a quotation of the participant that executed, else 0.
 fn own_cell(part: Option<Part>, row: &Row) -> u64
     ensures { result ≡ own_cell part row.now }
 {

@@ -1,4 +1,4 @@
-//! The state at any version: the report of one symbol, or a table of all.
+//! Showing the state at any version: the report of one symbol, or a table of all symbols.
 ghost use Rattle.std.specs.Prelude.{◌≡◌, ◌<◌, ◌≤◌, All, IfErr, IfOk, IfSome, List, OnOk, Option, length, option_copied, take, true, false};
 ghost use Rattle.nms_quote.specs.Roster.{sizes_of};
 ghost use Rattle.nms_quote.specs.declared.change.Change.{Change};
@@ -22,11 +22,11 @@ use nms_times::Times;
 use std::alloc::Global;
 use std::io::{Read, Write};
 
-/// Writes the state at version n, after the first n changes of a file: of one symbol the report, or of all symbols a table of
-/// their best bids and offers. As JSON, an object for each row and pair, or for each symbol.
+/// Writes the state at version n, after the first n changes of a file. For one symbol it is the report, for all symbols a table
+/// of their best bids and offers. As JSON, there is an object for each row and pair, or for each symbol.
 ///
-/// If the file has fewer changes, it is `VersionBeyondTape`; if times are given, and not as many, `Times`. Then nothing is
-/// written. It is not flushed.
+/// `VersionBeyondTape` if the file has fewer changes. `Times` if times are given, and their number is another. Then nothing is
+/// written. The output is not flushed.
 pub fn show_version<R: Read + Drop, W: Write>(
     alloc: Global,
     setup: &Setup,
@@ -51,7 +51,7 @@ pub fn show_version<R: Read + Drop, W: Write>(
     }
 }
 
-/// Writes what a board shows of a symbol, or of all.
+/// Writes what a board shows for a symbol, or for all.
 fn show_board<W: Write>(
     alloc: Global,
     roster: &Roster,
@@ -77,7 +77,7 @@ fn show_board<W: Write>(
 
 /// The board of a version, after the first n changes of a file.
 ///
-/// If the file has fewer changes it is `VersionBeyondTape`; if times are given, and not as many, `Times`.
+/// `VersionBeyondTape` if the file has fewer changes. `Times` if times are given, and their number is another.
 pub(crate) fn board_at<R: Read + Drop>(
     alloc: Global,
     setup: &Setup,
@@ -233,7 +233,7 @@ fn show_pairs<W: Write>(
     answers: &mut W,
 ) -> Result<(), ShowFault> {
     let mut from = PairPlace::new(0);
-    // Two participants of 32 make at most 1,024 pairs.
+    // The loop ends, because two participants of 32 make at most 1,024 pairs.
     for _ in 0..1024 {
         let Some(place) = from else {
             return Ok(());
@@ -318,7 +318,7 @@ fn show_best<W: Write>(
     if form.is_json() {
         return show_object(alloc, version, items, answers);
     }
-    // Trailing empty columns would be written as spaces.
+    // Trailing empty columns are left out, because they would be written as spaces.
     let shown = match (quoted.bid, quoted.offer) {
         (_, Some(_)) => 8,
         (Some(_), None) => 5,
@@ -356,7 +356,7 @@ const KEYS: [&str; 8] = [
     "offer_shares",
 ];
 
-/// Writes these as an object.
+/// Writes the facts as an object.
 fn show_object<W: Write>(
     alloc: Global,
     version: u64,
@@ -366,7 +366,7 @@ fn show_object<W: Write>(
     write_object(alloc, answers, &members_of(version, items))
 }
 
-/// A version's symbol, with the key of each item.
+/// The version, the symbol and the facts, each with its key.
 fn members_of<'a>(version: u64, items: [Item<'a>; 8]) -> [(&'static str, Item<'a>); 10] {
     let mut members = [("", Item::Absent); 10];
     members[0] = ("what", Item::Text("symbol"));
@@ -389,7 +389,7 @@ fn fields_of<'a>(roster: &'a Roster, row: &Option<Row>) -> (Item<'a>, Item<'a>, 
     }
 }
 
-/// The columns of the table.
+/// The columns of the table with these items.
 fn columns(items: [Item<'_>; 8]) -> [Column<'_>; 8] {
     let [
         symbol,

@@ -225,7 +225,7 @@ leg_walk roster end cut fields count more =
     (nat_lt 32 (if end then 0 else (if cut then 1 else count))))
     && walks roster (if end then due.Nothing else (if cut then due.Cut else due.Leg)) (if end then 0 else (if cut then 1 else count)) more
 
--- the record after the legs stands where a cut is due
+-- the record after the legs is where a cut is due
 leg_as_cut : (roster : Listing) (end cut : Bool) (fields : Record) (count : ℕ) (more : List Record) → (end || cut) ≡ true
     → leg_walk roster end cut fields count more ≡ cut_walk roster end fields 1 more
 leg_as_cut roster true cut fields count more later = refl
@@ -310,7 +310,7 @@ of_legs roster count (fields ∷ more) within =
         ∙ of_cuts roster 0 (fields ∷ more) (omega arith)
         ∙ after (other_word (codes "CUT") (codes "LEG") (field fields 0) refl cut)
 
--- ---- the whole
+-- ---- all records together
 
 abbrev said_of : Head → List Leg → List Cut → Said
 said_of head legs cuts = record { head = head; legs = legs; cuts = cuts }

@@ -1,4 +1,4 @@
-//! The records of a script, of a file of changes or of orders, and of a feed, explained.
+//! Explaining the records of a script, of a file of changes or of orders, and of a feed.
 ghost use Rattle.std.specs.Prelude.{◌≡◌, ◌<◌, ◌+◌, ◌-◌, ◌^◌, ◌++◌, ◌∷◌, IfOk, [], true, ℕ, List, Option};
 ghost use Rattle.csv.specs.Records.{fields_of};
 ghost use Rattle.nms_lines.specs.ChangeReading.{change_reading, feed_reading};
@@ -37,7 +37,7 @@ use nms_show::{Ending, Form, Item, SafeText};
 use std::alloc::{AllocError, Global};
 use std::io::{Read, Write};
 
-/// The fault of a source of more records, lines or bytes than a number counts: there is none.
+/// The fault of a source that has more records, lines or bytes than a number counts. No source has.
 pub(crate) const TOO_LONG: ExplainFault = ExplainFault::Record(RecordFault::Failed);
 
 /// What the caller asks for.
@@ -52,7 +52,7 @@ struct Asked<'a> {
 /// Reports each refused record of a script, and whether it publishes anything. It runs nothing of the script, so it does not
 /// report what a full queue or a full tape would refuse.
 ///
-/// The answers are not flushed. A fault leaves what was reported before. What is written is safe to show on a terminal.
+/// The answers are not flushed. After a fault, what was reported before stays. What is written is safe to show on a terminal.
 pub fn explain_script<R: Read + Drop, W: Write>(
     alloc: Global,
     setup: &Setup,
@@ -107,7 +107,7 @@ pub fn explain_orders<R: Read + Drop, W: Write>(
     explain_file(alloc, setup, file, source, from, form, answers)
 }
 
-/// Reports each refused record of the file of a feed, and whether all of them are of other feeds.
+/// Reports each refused record of the file of a feed, and whether all records are of other feeds.
 ///
 /// What is written is safe to show on a terminal.
 pub fn explain_feed<R: Read + Drop, W: Write>(
@@ -169,7 +169,7 @@ fn explain_source<R: Read, W: Write>(
     Ok(ending_of(&tally))
 }
 
-/// Writes how many records there were, and what is to be said of the whole file.
+/// Writes how many records there were, and a remark about the file.
 fn tell_sum(asked: &Asked<'_>, tally: &Tally, out: &mut SafeText) -> Result<(), AllocError> {
     tally.tell(asked.file, out)?;
     match remark_of(asked, tally) {
@@ -178,7 +178,7 @@ fn tell_sum(asked: &Asked<'_>, tally: &Tally, out: &mut SafeText) -> Result<(), 
     }
 }
 
-/// What is to be said of a whole file: that a script publishes nothing, or that all records of a feed's file are of other feeds.
+/// The remark about a file: that a script publishes nothing, or that all records of a feed's file are of other feeds.
 fn remark_of(asked: &Asked<'_>, tally: &Tally) -> Option<&'static str> {
     match asked.from {
         Reading::Script { .. } if !tally.publishes => {
@@ -199,7 +199,7 @@ fn is_swapped(tally: &Tally) -> bool {
     tally.records > 0 && tally.count(LineFault::WrongFeed) == tally.records
 }
 
-/// How a report ends on a file with records so counted.
+/// How a report ends on a file with these counts.
 fn ending_of(tally: &Tally) -> Ending
     ensures { result ≡ ending_by tally.now.refused }
 {
@@ -236,7 +236,7 @@ fn explain_records<R: Read, W: Write>(
     Err(TOO_LONG)
 }
 
-/// Counts the record of a number, and reports it if it is refused.
+/// Counts the record with a number, and reports it if it is refused.
 fn explain_record<R: Read>(
     asked: &Asked<'_>,
     reader: &Reader<RecordSource<R>>,
@@ -334,13 +334,13 @@ fn finding_of<'a>(
     }
 }
 
-/// The place in the file of a quote that opens a field over a line end, in a record that begins on that line; none if there
-/// is no such quote, or more lines than a number counts.
+/// The place in the file of a quote that opens a field over a line end, in a record that begins on the given line. None if
+/// there is no such quote, or more lines than a number counts.
 pub(crate) fn quote_at(text: &[u8], line: u64) -> Option<Point> {
     point_at(text, LineCount::at(line), open_quote(text)?)
 }
 
-/// What stands at which place, and what is expected there.
+/// What is found at which place, and what is expected there.
 #[derive(Clone, Copy)]
 struct Finding<'a> {
     field: Option<FieldPlace>,
@@ -349,7 +349,7 @@ struct Finding<'a> {
     expected: &'a str,
 }
 
-/// The finding on a record with another number of fields than its kind.
+/// The finding on a record that has another number of fields than its kind.
 fn count_of<'a>(row: &'a ByteRecord, text: &'a [u8]) -> Finding<'a>
     ensures found { is_own_plain result.found ≡ true }
 {
@@ -361,8 +361,8 @@ fn count_of<'a>(row: &'a ByteRecord, text: &'a [u8]) -> Finding<'a>
     }
 }
 
-/// Where a record has too many fields, or its end if it has too few: the quote that opens a field over a line end, the number
-/// that a comma parts, the last comma, or else the fields past the most allowed.
+/// The place at which a record has too many fields, or its end if it has too few. It is the quote that opens a field over a
+/// line end, the number that a comma parts, the last comma, or else the fields past the most allowed.
 fn surplus_span(row: &ByteRecord, text: &[u8]) -> Span {
     let (end, count) = (text.len(), row.len());
     if let Some(start) = open_quote(text) {
@@ -418,7 +418,7 @@ fn field_of<'a>(
     }
 }
 
-/// Where the first name that is not on the roster stands, among those that a field joins.
+/// The place of the first name that is not on the roster, among those that a field joins.
 pub(crate) fn unknown_span(text: &[u8], field: Span, names: &[u8], roster: &Roster) -> Span {
     match unknown_name(names, roster) {
         Some(nth) => name_span(text, field, nth),

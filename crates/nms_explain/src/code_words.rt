@@ -64,21 +64,21 @@ const CODES: [Code; 51] = [
     Code::Usage,
 ];
 
-/// What is printed of a code.
+/// What is printed about a code.
 #[derive(Clone, Copy)]
 pub(crate) struct CodeWords {
     /// The code, as it is printed.
     pub(crate) code: &'static str,
-    /// What it says.
+    /// The sentence that says what it means.
     pub(crate) sentence: &'static str,
-    /// What to do about it, or nothing.
+    /// What to do about it, or an empty text.
     pub(crate) remedy: &'static str,
 }
 
-/// Prints what a code means and what to do about it: each meaning, if it has several. Returns whether there is such a code; if
-/// not, nothing is printed.
+/// Prints what a code means and what to do about it, for each meaning if it has several. Returns whether there is such a code;
+/// if not, nothing is printed.
 ///
-/// The answers are not flushed. What is written is safe to show on a terminal; at a fault it is a prefix of such a text.
+/// The answers are not flushed. What is written is safe to show on a terminal. At a fault it is a prefix of such a text.
 #[tactic(auto, using(nms_show::proofs::Offered::no_part_added))]
 pub fn explain_code<W: Write>(
     alloc: Global,
@@ -94,7 +94,7 @@ pub fn explain_code<W: Write>(
     Ok(is_told)
 }
 
-/// Writes each meaning of a code: of the reviewer's program, of a refused execution, of the other programs or the library.
+/// Writes each meaning of a code: in the reviewer's program, of a refused execution, in the other programs or the library.
 /// Returns whether there is one.
 fn tell_code(code: &str, out: &mut SafeText) -> Result<bool, AllocError> {
     let mut is_told = false;
@@ -123,7 +123,7 @@ fn tell_code(code: &str, out: &mut SafeText) -> Result<bool, AllocError> {
     Ok(is_told)
 }
 
-/// Writes a code if it is the one that is asked for. Returns whether it is.
+/// Writes a code if it is the one that is asked for. Returns whether it is the one.
 fn tell_named(words: CodeWords, code: &str, out: &mut SafeText) -> Result<bool, AllocError> {
     if words.code != code {
         return Ok(false);

@@ -10,34 +10,34 @@ use crate::places::{FieldName, FieldPlace};
 pub enum ExecutionCode {
     /// X1: the first field is not `D`.
     UnknownKind,
-    /// X2: the record has not nine fields.
+    /// X2: the record does not have nine fields.
     FieldCount,
-    /// X3: the name is not of its form.
+    /// X3: the name does not have its form.
     BadName,
     /// X4: the symbol is not on the roster.
     UnknownSymbol,
-    /// X5: the price is none, or zero.
+    /// X5: the text is no price, or the price is zero.
     BadPrice,
-    /// X6: the shares are none, or zero.
+    /// X6: the text is no number of shares, or it is zero.
     BadShares,
     /// X7: the side is not `B`, `S` or empty.
     BadSide,
-    /// X8: it is neither a version nor `@` and a time.
+    /// X8: the text is neither a version nor `@` and a time.
     BadVersion,
     /// X9: there are fewer changes than the version says.
     Beyond,
     /// X10: the participant is neither empty nor on the roster.
     UnknownParticipant,
-    /// X11: a flag is none.
+    /// X11: a text is no flag.
     BadFlags,
-    /// X12: a time, and the changes have no times.
+    /// X12: there is a time, and the changes have no times.
     NoTimes,
-    /// X13: a time, and the file of symbols has no changes of the symbol.
+    /// X13: there is a time, and the file of symbols has no changes of the symbol.
     NoChanges,
 }
 
 impl ExecutionCode {
-    /// Each of them.
+    /// All codes.
     pub const ALL: [ExecutionCode; 13] = [
         ExecutionCode::UnknownKind,
         ExecutionCode::FieldCount,
@@ -76,7 +76,7 @@ impl ExecutionCode {
         }
     }
 
-    /// The field that is wrong; none if their number is.
+    /// The field that is wrong; none if the number of fields is.
     pub(crate) fn field(self) -> Option<FieldPlace>
         ensures { result ≡ field_of self }
     {
@@ -98,7 +98,7 @@ impl ExecutionCode {
         }
     }
 
-    /// What it says, in a sentence.
+    /// What the code means, in a sentence.
     pub(crate) fn sentence(self) -> &'static str {
         match self {
             ExecutionCode::UnknownKind => "the record of an execution does not begin with D",
@@ -122,7 +122,7 @@ impl ExecutionCode {
         }
     }
 
-    /// What should stand at the field, or how many fields there should be.
+    /// What is expected at the field, or how many fields there should be.
     pub(crate) fn expected(self) -> &'static str {
         match self {
             ExecutionCode::UnknownKind => "the kind of an execution: D",
@@ -144,7 +144,7 @@ impl ExecutionCode {
         }
     }
 
-    /// What to do about it.
+    /// What to do about the code.
     pub(crate) fn remedy(self) -> &'static str {
         match self {
             ExecutionCode::UnknownKind =>

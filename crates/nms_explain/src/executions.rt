@@ -1,4 +1,4 @@
-//! The refused records of a file of executions, explained.
+//! Explaining the refused records of a file of executions.
 ghost use Rattle.std.specs.Prelude.{◌≡◌, ◌<◌, ◌+◌, ◌-◌, ◌≤◌, ◌^◌, IfOk, length, true};
 ghost use Rattle.nms_explain.specs.Counted.{ending_by};
 ghost use Rattle.nms_show.specs.Plain.{is_own_plain};
@@ -26,9 +26,9 @@ const FIELDS: usize = 9;
 /// An execution that is refused.
 #[derive(Clone, Copy)]
 pub struct RefusedExecution {
-    /// The number of its record, from 1. A blank line is no record.
+    /// The number of its record, counted from 1. A blank line is no record.
     pub number: u64,
-    /// Why it is refused.
+    /// Why the execution is refused.
     pub code: ExecutionCode,
 }
 
@@ -39,10 +39,10 @@ struct Asked<'a> {
     refused: &'a [RefusedExecution],
 }
 
-/// Reports each refused execution of a text, given which are refused, in the order of their records: with its line, its column,
-/// its field and what is expected there. It ends with `Refused` if there is one.
+/// Reports each refused execution of a text, given which are refused, in the order of their records. It shows the line, the
+/// column, the field and what is expected there. It ends with `Refused` if there is one.
 ///
-/// The answers are not flushed. A fault leaves what was reported before. What is written is safe to show on a terminal.
+/// The answers are not flushed. After a fault, what was reported before stays. What is written is safe to show on a terminal.
 pub fn explain_executions<W: Write>(
     alloc: Global,
     file: &str,
@@ -106,7 +106,7 @@ fn explain_records<R: Read, W: Write>(
     Err(TOO_LONG)
 }
 
-/// Reports the record of a number if it is the next that is refused, after n. Returns how many were reported then.
+/// Reports the record with a number if it is the next that is refused, after n. Returns how many were reported then.
 fn explain_record<R: Read>(
     asked: &Asked<'_>,
     reader: &Reader<RecordSource<R>>,
@@ -175,8 +175,8 @@ fn refusal_of<'a>(
     }
 }
 
-/// Where the field stands; if their number is wrong, the quote that opens a field over a line end, the fields past the ninth or
-/// the comma before them, or the end of the record.
+/// The place of the field. If the number of fields is wrong, it is the quote that opens a field over a line end, the fields
+/// past the ninth or the comma before them, or the end of the record.
 fn span_at(text: &[u8], row: &ByteRecord, field: Option<FieldPlace>) -> Span {
     if let Some(at) = field {
         return span_of(text, at.place);
@@ -201,7 +201,7 @@ fn span_at(text: &[u8], row: &ByteRecord, field: Option<FieldPlace>) -> Span {
     Span { start, end }
 }
 
-/// What stands at a field; the number of fields if none is wrong.
+/// What is found at a field; the number of fields if none is wrong.
 fn found_at<'a>(row: &'a ByteRecord, field: Option<FieldPlace>) -> Item<'a>
     ensures { is_own_plain result ≡ true }
 {

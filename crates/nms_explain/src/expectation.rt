@@ -1,4 +1,4 @@
-//! What is expected at the place of a refusal.
+//! What is expected at the place of a fault.
 use crate::places::{FieldName, expected_kind};
 use nms_lines::{LineFault, Reading};
 use nms_quote::Feed;

@@ -12,9 +12,9 @@ use thiserror::Error;
 /// Why a file was not explained to its end. What was reported before stays.
 #[derive(Clone, Copy, Debug, PartialEq, Eq, Error)]
 pub enum ExplainFault {
-    /// The file could not be read, or memory ran out: E1 or E4.
+    /// The file could not be read, or out of memory: E1 or E4.
     Record(#[from] RecordFault),
-    /// The answer could not be written, or memory ran out: E2 or E4.
+    /// The answer could not be written, or out of memory: E2 or E4.
     Show(#[from] ShowFault),
 }
 

@@ -1,4 +1,4 @@
-//! What a refused record looks like instead.
+//! Hints at what a refused record looks like instead.
 ghost use Rattle.std.specs.Prelude.{◌+◌, ◌<◌, ◌^◌, IfSome, length};
 ghost use Rattle.csv.specs.Records.{fields_of};
 
@@ -14,7 +14,7 @@ const ANSWER_WORDS: [&str; 8] = [
     "PUB", "TOLD", "BEST", "THRU", "ROW", "ERR", "TAPE", "ANSWER",
 ];
 
-/// What a refused record looks like instead, if it looks like something.
+/// What a refused record looks like, if it looks like something else.
 pub(crate) fn hint_of(
     fault: LineFault,
     number: u64,
@@ -36,7 +36,7 @@ pub(crate) fn hint_of(
     }
 }
 
-/// What a record of no kind looks like; more cases count for the first record of a file.
+/// What a record of an unknown kind looks like. More cases are tested for the first record of a file.
 pub(crate) fn hint_of_kind(number: u64, text: &[u8]) -> &'static str {
     if memchr(0, text).is_some() || text.starts_with(b"\xFF\xFE") || text.starts_with(b"\xFE\xFF") {
         return "this looks like UTF-16: save the file as ASCII or UTF-8";
@@ -78,12 +78,12 @@ fn hint_of_letter(first: u8) -> &'static str {
     }
 }
 
-/// Whether a word is one of these.
+/// Whether a word is one of the given ones.
 fn is_one_of(words: &[&str], first: &[u8]) -> bool {
     words.iter().any(|word| word.as_bytes() == first)
 }
 
-/// What a record looks like by the marks that stand before its first comma.
+/// What a record looks like by the marks before its first comma.
 fn hint_of_marks(first: &[u8]) -> &'static str {
     match first {
         [b'#' | b'/' | b'-' | b'*', ..] => "this looks like a comment: there are none",
@@ -99,7 +99,7 @@ fn hint_of_marks(first: &[u8]) -> &'static str {
     }
 }
 
-/// What a record looks like whose fields stand between pipes.
+/// What a record looks like whose fields are separated by pipes.
 fn hint_of_pipes(first: &[u8]) -> &'static str {
     match first {
         [b'A'..=b'Z', b'|', ..] => "pipes stand between the fields: commas are expected",
@@ -107,7 +107,7 @@ fn hint_of_pipes(first: &[u8]) -> &'static str {
     }
 }
 
-/// What a record looks like whose fields stand between tabs.
+/// What a record looks like whose fields are separated by tabs.
 fn hint_of_tabs(first: &[u8]) -> &'static str {
     match first {
         [b'A'..=b'Z', b'\t', ..] => "tabs stand between the fields: commas are expected",
@@ -151,8 +151,8 @@ fn surplus(row: &ByteRecord) -> usize {
     if count > most { count - most } else { 0 }
 }
 
-/// How many fields stand before a number that a comma parts in two, as in `1,000.00`, if such numbers account for all the
-/// fields that the record has too many.
+/// How many fields come before a number that a comma parts in two, as in `1,000.00`. It is found only if such numbers account
+/// for all the surplus fields of the record.
 pub(crate) fn parted_number(row: &ByteRecord) -> Option<usize>
     ensures { IfSome result (λ place. place + 1 < length (fields_of row.now)) }
 {
@@ -174,12 +174,12 @@ pub(crate) fn parted_number(row: &ByteRecord) -> Option<usize>
     }
 }
 
-/// Whether a text may be what stands before a comma within a number: 1 to 3 digits.
+/// Whether a text may be the part of a number before a comma: 1 to 3 digits.
 fn is_head(text: &[u8]) -> bool {
     !text.is_empty() && text.len() <= 3 && text.iter().all(|byte| byte.is_ascii_digit())
 }
 
-/// Whether a text may be what stands after a comma within a number: 3 digits, and a point or nothing.
+/// Whether a text may be the part of a number after a comma: 3 digits, and a point or nothing.
 fn is_tail(text: &[u8]) -> bool {
     match text {
         [b'0'..=b'9', b'0'..=b'9', b'0'..=b'9'] => true,
@@ -188,7 +188,7 @@ fn is_tail(text: &[u8]) -> bool {
     }
 }
 
-/// On which feed a participant sends.
+/// The feed on which a participant sends, as a hint.
 pub(crate) fn hint_of_feed(name: &[u8], roster: &Roster) -> &'static str {
     let Some(part) = roster.find_part(name) else {
         return "";

@@ -1,5 +1,5 @@
-//! What is wrong with the records of a file, in a report for people: each refusal with its line and column, what was found and
-//! what is expected there, and what to do.
+//! Explaining what is wrong with the records of a file, in a report for people. It has each refusal with its line and column,
+//! what was found and what is expected there, and what to do.
 #![tactic(auto)]
 
 mod changes;

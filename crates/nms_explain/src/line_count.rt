@@ -1,16 +1,16 @@
-//! Lines: a line feed ends one, and so does a carriage return, with the line feed after it if there is one.
+//! Counting lines. A line feed ends a line, and so does a carriage return, with the line feed after it if there is one.
 use memchr::{memchr, memchr_iter};
 
 /// How far the lines of a text were counted.
 #[derive(Clone, Copy)]
 pub(crate) struct LineCount {
-    /// The line of the next byte, from 1.
+    /// The line of the next byte, counted from 1.
     pub(crate) line: u64,
     after_return: bool,
 }
 
 impl LineCount {
-    /// Before a byte of that line, with no carriage return just before it.
+    /// The count before a byte of a line, with no carriage return just before it.
     pub(crate) fn at(line: u64) -> Self {
         LineCount {
             line,
@@ -18,7 +18,7 @@ impl LineCount {
         }
     }
 
-    /// After a text; none if there are more lines than a number counts.
+    /// The count after a text; none if there are more lines than a number counts.
     pub(crate) fn after(self, text: &[u8]) -> Option<Self> {
         if self.after_return || memchr(b'\r', text).is_some() {
             return self.after_returns(text);

@@ -1,7 +1,7 @@
 //! The codes that only `nms_tool`, `nms_serve` and the library give.
 use crate::code_words::CodeWords;
 
-/// The codes that only `nms_tool`, `nms_serve` and the library give, as docs/ERRORS.md says them.
+/// The codes that only `nms_tool`, `nms_serve` and the library give, in the words of docs/ERRORS.md.
 pub(crate) static OTHERS: [CodeWords; 48] = [
     CodeWords {
         code: "A2",

@@ -1,4 +1,4 @@
-//! The text of a plan, explained: `specs/Planned`.
+//! Explaining the text of a plan: `specs/Planned`.
 ghost use Rattle.std.specs.Prelude.{◌≡◌, ◌<◌, ◌≤◌, ◌+◌, ◌-◌, ◌^◌, ◌++◌, ◌∷◌, [], ℕ, List, Option, Some, IfOk, is_none, true};
 ghost use Rattle.csv.specs.Records.{fields_of};
 ghost use Rattle.nms_lines.specs.Layout.{Record};
@@ -39,7 +39,7 @@ struct Asked<'a> {
     file: &'a str,
 }
 
-/// The state after the records of a plan's text so far.
+/// The state after the records of a plan's text up to now.
 #[derive(Clone, Copy)]
 struct Came {
     walk: PlanWalk,
@@ -50,7 +50,7 @@ struct Came {
 /// Reports each wrong record of a plan's text: the field that a plan can't have at that place, or that another record is due.
 /// If it reports nothing, the text is a plan's: `read_plan` of `nms_lines` takes it.
 ///
-/// The answers are not flushed. A fault leaves what was reported before. What is written is safe to show on a terminal.
+/// The answers are not flushed. After a fault, what was reported before stays. What is written is safe to show on a terminal.
 pub fn explain_plan<W: Write>(
     alloc: Global,
     setup: &Setup,
@@ -123,7 +123,7 @@ fn explain_records<R: Read, W: Write>(
     Err(TOO_LONG)
 }
 
-/// Counts the record of a number, and reports it if it is wrong.
+/// Counts the record with a number, and reports it if it is wrong.
 fn explain_record<R: Read>(
     asked: &Asked<'_>,
     reader: &Reader<RecordSource<R>>,
@@ -244,7 +244,7 @@ fn refusal_of<'a>(
     }
 }
 
-/// Where a wrong field stands; of joined names the first that is not on the roster.
+/// The place of a wrong field. If it joins names, it is that of the first name that is not on the roster.
 fn span_at(text: &[u8], row: &ByteRecord, at: FieldPlace, roster: &Roster) -> Span {
     let field = span_of(text, at.place);
     if at.name == FieldName::Names {
@@ -254,7 +254,7 @@ fn span_at(text: &[u8], row: &ByteRecord, at: FieldPlace, roster: &Roster) -> Sp
     }
 }
 
-/// What stands at a field, or at a span of joined names; the number of fields if none is wrong.
+/// What is found at a field, or at a span of joined names; the number of fields if none is wrong.
 fn found_at<'a>(
     text: &'a [u8],
     row: &'a ByteRecord,
@@ -272,7 +272,7 @@ fn found_at<'a>(
     }
 }
 
-/// All of a record.
+/// The span of all of a record.
 fn whole(text: &[u8]) -> Span {
     Span {
         start: 0,
@@ -280,7 +280,7 @@ fn whole(text: &[u8]) -> Span {
     }
 }
 
-/// What the first record looks like instead of a plan's, and a record after the end.
+/// A hint for the first record, if it looks like something else than a plan's; and one for a record after the end.
 fn hint_for(due: PlanDue, number: u64, text: &[u8]) -> &'static str {
     match due {
         PlanDue::Plan if !text.starts_with(b"PLAN,") => hint_of_kind(number, text),
@@ -289,7 +289,7 @@ fn hint_for(due: PlanDue, number: u64, text: &[u8]) -> &'static str {
     }
 }
 
-/// The first field of a record.
+/// The place of the first field of a record.
 fn first_field() -> FieldPlace {
     FieldPlace {
         place: 0,
@@ -327,7 +327,7 @@ fn expected_of(due: PlanDue, name: FieldName) -> &'static str {
         FieldName::Value => "money after MARGINAL, nothing after TOOMUCH and TOOLITTLE",
         FieldName::Shares => expected_shares(due),
         FieldName::Filled
-        // No record of a plan has one of these.
+        // No record of a plan has any of these fields.
         | FieldName::Id
         | FieldName::When
         | FieldName::Flags
@@ -350,7 +350,7 @@ fn expected_shares(due: PlanDue) -> &'static str {
     }
 }
 
-/// The word that a record has to begin with.
+/// The word with which a record has to begin.
 fn expected_word(due: PlanDue) -> &'static str {
     match due {
         PlanDue::Plan => "PLAN",

@@ -1,6 +1,6 @@
-//! What is within quotes, as the reader of records sees it.
+//! What is within quotes, for the reader of records.
 
-/// Where a byte is, within quotes or not.
+/// Where a byte is: within quotes or not.
 #[derive(Clone, Copy)]
 pub(crate) enum Quoting {
     /// At the start of a field.
@@ -9,7 +9,7 @@ pub(crate) enum Quoting {
     Plain,
     /// Within quotes.
     Within,
-    /// After a quote that closes, or is the first of two.
+    /// After a quote that closes the field, or is the first of two.
     After,
 }
 

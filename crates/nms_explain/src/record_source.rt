@@ -1,7 +1,7 @@
-//! A source that passes its bytes on as they come, and keeps those of the record being read.
+//! A source that passes its bytes on as they come, and keeps those of the present record.
 //!
-//! It keeps whole records, however long they are, so that a report shows the very text that the reader of records read. It
-//! forgets what stands before the record being read.
+//! It keeps all of a record, however long that is, so that a report shows the same text that the reader of records read. It
+//! drops what comes before the present record.
 ghost use Rattle.std.specs.Prelude.{◌≡◌, ◌≤◌, ◌++◌, ◌∷◌, [], ℕ, List, Option, Ok, true, false, length};
 ghost use Rattle.std.specs.Io.{ReadsAtMost};
 ghost use Rattle.std.specs.Io.KnownBytes.{ReadConsumes};
@@ -18,22 +18,22 @@ use std::cell::Cell;
 use std::io;
 use std::io::Read;
 
-/// What may begin a text without being part of its first record.
+/// The byte order mark, which may come before the first record and is no part of it.
 const MARK: [u8; 3] = [0xEF, 0xBB, 0xBF];
 
-/// A source, with the bytes passed on of the record being read.
+/// A source, with the bytes of the present record that were passed on.
 #[derive(Drop)]
 pub(crate) struct RecordSource<R> {
     source: R,
-    /// The bytes passed on since the start of the record that was being read at the last request.
+    /// The bytes that were passed on since the start of the record that was present at the last request.
     kept: Vec<u8>,
-    /// How many bytes were passed on before those, and the lines before them.
+    /// How many bytes were passed on before the kept ones, and the lines before them.
     passed: u64,
     lines: LineCount,
-    /// Where the bytes passed on last begin among the kept ones, and the lines before them.
+    /// The place among the kept bytes at which the last ones passed on begin, and the lines before them.
     recent: usize,
     recent_lines: LineCount,
-    /// How many bytes were passed on up to the end of the previous record: the owner of the reader sets it.
+    /// How many bytes were passed on up to the end of the previous record. The owner of the reader sets it.
     ended: Cell<u64>,
     is_out_of_memory: bool,
 }
@@ -45,7 +45,7 @@ pub(crate) struct RecordText<'a> {
     pub(crate) line: u64,
 }
 
-/// A reader of the records of a source, which keeps the text of the record that was read last.
+/// A reader of the records of a source, which keeps the text of the last record that was read.
 pub(crate) fn open_source<R: Read>(alloc: Global, source: R) -> Reader<RecordSource<R>>
     ensures { ReadsFrom (left_of R.remaining) result (R.remaining source) [] }
 {
@@ -71,13 +71,13 @@ pub(crate) fn next_record<R: Read>(
     next
 }
 
-/// The text of the record that was read last, and its line; none if there are more lines than a number counts.
+/// The text of the last record that was read, and its line; none if there are more lines than a number counts.
 pub(crate) fn record_of<R: Read>(reader: &Reader<RecordSource<R>>) -> Option<RecordText<'_>> {
     reader.get_ref().record(reader.position().byte)
 }
 
 impl<R> RecordSource<R> {
-    /// Over a source, of which nothing is read yet.
+    /// A record source over a source of bytes of which nothing is read yet.
     fn new(alloc: Global, source: R) -> Self
         ensures { result.source ≡ source }
     {
@@ -93,19 +93,19 @@ impl<R> RecordSource<R> {
         }
     }
 
-    /// The text of the record that was read last, given how many bytes were passed on by its end.
+    /// The text of the last record that was read, given how many bytes were passed on by its end.
     fn record(&self, end: u64) -> Option<RecordText<'_>> {
         let (start, end) = (self.place_of(self.ended.get()), self.place_of(end));
         let text = self.kept.get(start..end).unwrap_or(&[]);
         trimmed(text, self.lines_at(start)?)
     }
 
-    /// Where the text ends, once all of it was read; none if there are more lines than a number counts.
+    /// The place at which the text ends, once all of it was read; none if there are more lines than a number counts.
     pub(crate) fn end(&self) -> Option<Point> {
         point_at(&self.kept, self.lines, self.kept.len())
     }
 
-    /// The place among the kept bytes of the byte that follows n passed on.
+    /// The place among the kept bytes of the byte after the first n that were passed on.
     fn place_of(&self, given: u64) -> usize {
         if given <= self.passed {
             0
@@ -128,8 +128,8 @@ impl<R> RecordSource<R> {
         self.kept.get(from..to).unwrap_or(&[])
     }
 
-    /// Forgets what stands before the record being read, because more is requested; none if there are more bytes or lines than
-    /// a number counts.
+    /// Drops what comes before the present record, because more is requested; none if there are more bytes or lines than a
+    /// number counts.
     fn forget(&mut self) -> Option<()>
         ensures { self.new.source ≡ self.old.source }
     {
@@ -148,9 +148,9 @@ impl<R> RecordSource<R> {
         Some(())
     }
 
-    /// Where the record being read begins among the kept bytes: after the record before it, and after the line ends and the
-    /// mark that belong to no record. If the end of the text ended the record before it, and no line end did, that record
-    /// stays. So the kept bytes begin at the start of a line.
+    /// The place among the kept bytes at which the present record begins. It is after the record before it, and after the line
+    /// ends and the mark that belong to no record. If the end of the text, and not a line end, ended the record before it, that
+    /// record stays. So the kept bytes begin at the start of a line.
     fn start(&self) -> usize {
         let (before, rest) = self
             .kept
@@ -173,7 +173,7 @@ impl<R: Read> Read for RecordSource<R> {
         ensures bytes { ReadConsumes (left_of R.remaining self.old) (left_of R.remaining self.new) result buf.new }
     {
         if self.forget().is_none() {
-            // No source has so many bytes.
+            // This never happens, because no source has that number of bytes.
             return Err(io::Error::from(io::ErrorKind::InvalidData));
         }
         if self.kept.reserve(buf.len()).is_err() {
@@ -188,7 +188,7 @@ impl<R: Read> Read for RecordSource<R> {
     }
 }
 
-/// How many bytes the line ends at the start of a text take.
+/// How many bytes are line ends at the start of a text.
 fn blank_length(text: &[u8]) -> usize
     ensures { result ≤ length text.now }
 {

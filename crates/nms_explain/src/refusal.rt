@@ -1,4 +1,4 @@
-//! One refusal, as it is reported.
+//! One refusal, and how it is reported.
 ghost use Rattle.std.specs.Prelude.{◌≡◌, true};
 ghost use Rattle.nms_show.specs.Plain.{is_own_plain, is_plain};
 
@@ -15,39 +15,39 @@ use std::alloc::AllocError;
 pub(crate) struct Refusal<'a> {
     /// The file, as the call named it.
     pub(crate) file: &'a str,
-    /// The record's number, from 1.
+    /// The record's number, counted from 1.
     pub(crate) number: u64,
     /// The line on which it begins.
     pub(crate) line: u64,
-    /// Its text.
+    /// The record's text.
     pub(crate) text: &'a [u8],
-    /// The part of it that is wrong.
+    /// The part of the text that is wrong.
     pub(crate) span: Span,
     /// The code of the refusal.
     pub(crate) code: RefusalCode,
     /// The field that is wrong, if one is.
     pub(crate) field: Option<FieldPlace>,
-    /// What stands there, or how many fields there are.
+    /// What is found there, or how many fields there are.
     pub(crate) found: Item<'a>,
-    /// What should stand there.
+    /// What is expected there.
     pub(crate) expected: &'a str,
-    /// What the record looks like instead, or nothing.
+    /// What the record looks like instead, or an empty text.
     pub(crate) hint: &'a str,
     /// What to do about it.
     pub(crate) remedy: &'a str,
-    /// The quote of the record that opens a field which goes on over a line end, or to the end of the file.
+    /// The place of the quote that opens a field which goes on over a line end, or to the end of the file.
     pub(crate) quote: Option<Point>,
 }
 
 impl Refusal<'_> {
-    /// Where in the file the part begins that is wrong; none if there are more lines than a number counts.
+    /// The place in the file at which the wrong part begins; none if there are more lines than a number counts.
     pub(crate) fn point(&self) -> Option<Point> {
         point_at(self.text, LineCount::at(self.line), self.span.start)
     }
 }
 
-/// Writes a refusal: its place in the file, the record with carets under what is wrong, what was found and what is
-/// expected, where a quote opens that goes on, what the record looks like instead, and what to do.
+/// Writes a refusal: its place in the file, the record with carets under what is wrong, what was found and what is expected. It
+/// also writes where a quote opens that goes on, what the record looks like instead, and what to do.
 pub(crate) fn tell_refusal(
     refusal: &Refusal<'_>,
     point: Point,
@@ -105,7 +105,7 @@ fn name_strong<'a>(name: FieldName) -> Item<'a>
     Item::Strong(name.text())
 }
 
-/// The number of a field, from 1, if a number counts that far.
+/// The number of a field, counted from 1, if a number counts that far.
 fn number_of<'a>(at: FieldPlace) -> Item<'a>
     ensures { is_own_plain result ≡ true }
 {

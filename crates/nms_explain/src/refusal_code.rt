@@ -1,4 +1,4 @@
-//! The code of a refusal: of a record that the board reads, or of an execution.
+//! The code of a refusal: that of a record that the board reads, or of an execution.
 ghost use Rattle.std.specs.Prelude.{◌≡◌, true};
 ghost use Rattle.nms_show.specs.Plain.{is_plain};
 
@@ -8,9 +8,9 @@ use nms_codes::Code;
 /// The code of a refusal.
 #[derive(Clone, Copy)]
 pub(crate) enum RefusalCode {
-    /// Of a record that the board reads, or of a plan's text.
+    /// The code of a record that the board reads, or of a plan's text.
     Record(Code),
-    /// Of an execution.
+    /// The code of an execution.
     Execution(ExecutionCode),
 }
 

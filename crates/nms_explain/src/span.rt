@@ -1,4 +1,4 @@
-//! Where a field stands in the text of its record, and where that is in the file.
+//! The place of a field in the text of its record, and in the file.
 ghost use Rattle.std.specs.Prelude.{◌≤◌, IfSome, length};
 
 use crate::line_count::LineCount;
@@ -6,7 +6,7 @@ use crate::quoting::Quoting;
 use memchr::memrchr2;
 use nms_show::Location;
 
-/// Where something stands in the text of a record: its first byte, and the one after its last.
+/// A part of the text of a record: its first byte, and the one after its last.
 #[derive(Clone, Copy)]
 pub(crate) struct Span {
     pub(crate) start: usize,
@@ -16,14 +16,14 @@ pub(crate) struct Span {
 /// A place in a file.
 #[derive(Clone, Copy)]
 pub(crate) struct Point {
-    /// The line, from 1.
+    /// The line, counted from 1.
     pub(crate) line: u64,
-    /// The column, a byte of the line, from 1.
+    /// The column, which is a byte of the line, counted from 1.
     pub(crate) column: u64,
 }
 
 impl Point {
-    /// The place in a file of that name.
+    /// The place in the file with a name.
     pub(crate) fn of_file<'a>(self, file: &'a str) -> Location<'a> {
         Location {
             file,
@@ -33,7 +33,7 @@ impl Point {
     }
 }
 
-/// Where the field after n others stands, with its quotes; the end of the text if it has fewer.
+/// The span of the field after n others, with its quotes; the end of the text if it has fewer.
 pub(crate) fn span_of(text: &[u8], place: usize) -> Span {
     let mut quoting = Quoting::Start;
     let mut start = 0;
@@ -57,7 +57,7 @@ pub(crate) fn span_of(text: &[u8], place: usize) -> Span {
     }
 }
 
-/// Where the first quote stands that opens a field which goes on over a line end, or to the end of the text.
+/// The place of the first quote that opens a field which goes on over a line end, or to the end of the text.
 pub(crate) fn open_quote(text: &[u8]) -> Option<usize>
     ensures { IfSome result (λ at. at ≤ length text.now) }
 {
@@ -82,7 +82,7 @@ pub(crate) fn open_quote(text: &[u8]) -> Option<usize>
     }
 }
 
-/// The place in the file of a byte of a text that begins at the start of a line, with the lines before it; none if there are
+/// The place in the file of a byte of a text that begins at the start of a line, with the lines before it. None if there are
 /// more lines than a number counts.
 pub(crate) fn point_at(text: &[u8], lines: LineCount, at: usize) -> Option<Point> {
     let before = text.get(..at).unwrap_or(text);
@@ -96,7 +96,7 @@ pub(crate) fn point_at(text: &[u8], lines: LineCount, at: usize) -> Option<Point
     })
 }
 
-/// Where the name after n others stands, among those that a field joins by `+`.
+/// The span of the name after n others, among those that a field joins by `+`.
 pub(crate) fn name_span(text: &[u8], field: Span, nth: usize) -> Span {
     let mut start = field.start;
     let mut passed = 0;

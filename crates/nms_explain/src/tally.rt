@@ -8,7 +8,7 @@ use nms_lines::{Line, LineFault};
 use nms_show::{Item, SafeText};
 use std::alloc::AllocError;
 
-/// How many faults a record may have. The place of each is below it, so that a new fault needs a greater one.
+/// How many faults a record may have. The place of each is below this number, so a new fault needs a greater one.
 const FAULT_COUNT: usize = 11;
 
 /// The faults of a record, in the order of their codes.
@@ -29,17 +29,17 @@ const FAULTS: [LineFault; FAULT_COUNT] = [
 /// The counts of the records so far.
 #[derive(Clone, Copy)]
 pub(crate) struct Tally {
-    /// How many there were.
+    /// How many records there were.
     pub(crate) records: u64,
     /// How many of them were refused.
     pub(crate) refused: u64,
-    /// Whether one of them publishes.
+    /// Whether one of the records publishes.
     pub(crate) publishes: bool,
     by_fault: [u64; FAULT_COUNT],
 }
 
 impl Tally {
-    /// Before the first record.
+    /// The counts before the first record.
     pub(crate) fn new() -> Self
         ensures records { result.records ≡ 0 }
         ensures refused { result.refused ≡ 0 }
@@ -113,7 +113,7 @@ fn publishes(line: &Line) -> bool
     }
 }
 
-/// The place of a fault among the faults, from 0.
+/// The place of a fault among the faults, counted from 0.
 fn place_of_fault(fault: LineFault) -> usize
     ensures { result < FAULT_COUNT }
 {
@@ -179,7 +179,7 @@ pub(crate) fn tell_count<'a>(
     out.line(&[Item::Text("    "), code, Item::Text(": "), count])
 }
 
-/// Writes a remark on the whole file.
+/// Writes a remark about the file.
 pub(crate) fn tell_remark<'a>(
     file: &'a str,
     remark: &'a str,

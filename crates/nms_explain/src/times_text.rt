@@ -1,4 +1,4 @@
-//! The text of a file of times, explained.
+//! Explaining the text of a file of times.
 ghost use Rattle.std.specs.Prelude.{◌≡◌, ◌<◌, ◌+◌, ◌-◌, ◌≤◌, ◌^◌, ◌⊎◌, IfOk, length, true};
 ghost use Rattle.nms_show.specs.Plain.{is_own_plain};
 ghost use Rattle.nms_show.specs.Safe.{IsSafe};
@@ -18,10 +18,10 @@ const MOST_TOLD: u64 = 100;
 const A_TIME: &str =
     "15 digits of a time of day, HHMMSSnnnnnnnnn, and a line feed; a comma and 15 digits of a row between in every line or in none";
 
-/// Reports why no version is found by a file of times: its first line that is no time (H1), or else each line whose time is before
-/// that of the line above it (H2), at most 100 of them. It ends with `Refused` if there is one.
+/// Reports why no version is found by a file of times. That is its first line that is no time (H1), or else each line whose
+/// time is before that of the line above it (H2), at most 100 of them. It ends with `Refused` if there is one.
 ///
-/// The answers are not flushed. What is written is safe to show on a terminal; at a fault it is a prefix of such a text.
+/// The answers are not flushed. What is written is safe to show on a terminal. At a fault it is a prefix of such a text.
 #[tactic(auto, using(nms_show::proofs::Offered::no_part_added))]
 pub fn explain_times<W: Write>(
     alloc: Global,
@@ -70,7 +70,7 @@ fn tell_times(file: &str, text: &[u8], out: &mut SafeText) -> Result<Ending, All
     }
 }
 
-/// Reports the first 100 times that are before the one above. Returns how many there are.
+/// Reports the first 100 times that are before the one above them. Returns how many there are.
 fn tell_falls(
     file: &str,
     text: &[u8],
@@ -155,7 +155,7 @@ fn tell_place(
     out.refused(at, code.text(), &items, wrong)
 }
 
-/// The line of a number, without its line feed. All lines before it are as long as the first.
+/// The line with a number, without its line feed. All lines before it have the length of the first.
 fn line_at(text: &[u8], number: u64) -> &[u8] {
     let width = first_line(text).len() as u64 + 1;
     let start = match number.checked_sub(1) {

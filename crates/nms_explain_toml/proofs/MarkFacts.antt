@@ -1,4 +1,4 @@
--- A front of a line: how many bytes it has, and that it stands in the text where the line begins.
+-- A front of a line: how many bytes it has, and that it is in the text at the beginning of the line.
 use Rattle.std.proofs.Common.{ℕ, List, Bool, ◌≡◌, ◌∙◌, ◌+◌, ◌-◌, ◌≤◌, ap, arith, drop, length, not, subst, take}
 use Rattle.std.proofs.lemmas.List.{length-take, take-take}
 use Rattle.std.proofs.lemmas.List.Folds.{length-prefix_len}

@@ -19,7 +19,7 @@ whole_line = refl
 first_line : line_number (codes "queue = 9\ndesks = x\n") 9 ≡ 1
 first_line = refl
 
--- two bytes are one character: an `é` stands before the place
+-- two bytes are one character: an `é` is before the place
 one_character : column_at (195 ∷ 169 ∷ 61 ∷ []) 2 ≡ 2
 one_character = refl
 

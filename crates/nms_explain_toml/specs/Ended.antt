@@ -17,7 +17,7 @@ abbrev pub ending_at : Option Members → Ending
 ending_at None = ending.SetupRefused
 ending_at (Some document) = ending_of (length (findings_of document))
 
--- a mapping of what it says that it is: of a document by its faults
+-- how the call ends on a mapping of the kind that it names: by the document's faults
 abbrev pub ending_by : Members → Ending
 ending_by document = ending_of (length (faults_of (plain (kind_of document) document)))
 

@@ -24,5 +24,6 @@ has_column key document = is_some (value_at (plain kind.Quotes document) (codes 
 abbrev pub kind_of : Members → Kind
 kind_of document =
     if says_trades document || (has_other_kind document && has_column (codes "price") document) then kind.Trades
-    else (if has_column (codes "bid_participant") document || has_column (codes "offer_participant") document then kind.Bests
+    else (if has_column (codes "bid_participant") document || has_column (codes "offer_participant") document
+    || has_column (codes "ask_participant") document then kind.Bests
     else kind.Quotes)

@@ -1,4 +1,4 @@
--- A line of a setup's text: a header, or a key with its value. TOML 1.0, "Keys", "Table" and "Array of Tables", but for keys
+-- A line of a setup's text: a header, or a key with its value. TOML 1.0, "Keys", "Table" and "Array of Tables", except for keys
 -- with escapes: in quotes a key ends at the next quotation mark.
 use Rattle.std.specs.Prelude.{ℕ, ◌+◌, ◌-◌, ◌≤◌, ◌==◌, ◌&&◌, ◌||◌, List, [], ◌∷◌, Bool, true, false}
 use Rattle.std.specs.Prelude.{Option, Some, None, bytes_eq, codes, drop, length, option_map, position, take, take_while, if◌then◌else◌}
@@ -8,21 +8,21 @@ use Rattle.nms_explain_toml.specs.Blanks.{trim, trim_end, trim_start}
 use Rattle.nms_explain_toml.specs.Nesting.{begins, after_byte, is_plain, outer_nest}
 use Rattle.nms_explain_toml.specs.declared.nest.Nest.{Nest}
 
--- whether a byte may stand in a key without quotes
+-- whether a byte is allowed in a key without quotes
 abbrev pub is_bare : ℕ → Bool
 is_bare byte = (is_ascii_alphanumeric byte || byte == 95) || byte == 45
 
--- a key in quotes, after the first of them, and what stands after it
+-- a key in quotes, after the first of them, and the text after it
 abbrev pub quoted_key : ℕ → List ℕ → Option (List ℕ × List ℕ)
 quoted_key quote text = option_map (λ end. (take end text, drop (end + 1) text)) (position (λ byte. byte == quote) text)
 
--- a key without quotes, and what stands after it
+-- a key without quotes, and the text after it
 abbrev pub bare_key : List ℕ → Option (List ℕ × List ℕ)
 bare_key text =
     let long = length (take_while is_bare text) in
     if long == 0 then None else Some (take long text, drop long text)
 
--- the key that a text begins with, and what stands after it
+-- the key at the beginning of a text, and the text after it
 abbrev pub key_at : List ℕ → Option (List ℕ × List ℕ)
 key_at text =
     if begins (34 ∷ []) text then quoted_key 34 (drop 1 text)
@@ -45,7 +45,7 @@ header_in line =
     else if begins (codes "[") (trim line) then option_map (λ name. (name, false)) (name_in (drop 1 (trim line)))
     else None
 
--- whether what a text begins with is a key, and a point stands after it
+-- whether a text begins with a key, and a point follows it
 abbrev pub is_dotted : List ℕ → Option (List ℕ × List ℕ) → Bool
 is_dotted key None = false
 is_dotted key (Some (first, rest)) = bytes_eq first key && begins (codes ".") rest
@@ -62,7 +62,7 @@ ends_value byte = ((byte == 44 || byte == 93) || byte == 125) || byte == 35
 abbrev pub is_free : Nest → Bool
 is_free nest = (is_plain nest.within && nest.skipped == 0) && nest.depth == 0
 
--- how many bytes of a text stand before the end of its value
+-- how many bytes of a text come before the end of its value
 abbrev pub value_length : Nest → List ℕ → ℕ
 value_length nest [] = 0
 value_length nest (byte ∷ rest) =
@@ -72,7 +72,7 @@ value_length nest (byte ∷ rest) =
 abbrev pub value_in : List ℕ → List ℕ
 value_in text = trim_end (take (value_length outer_nest text) text)
 
--- what stands after the `=` of a key; from the key on if a point stands there
+-- the text after the `=` of a key; from the key on if a point follows it
 abbrev pub value_after : List ℕ → List ℕ → Option (List ℕ)
 value_after from_key rest =
     if begins (codes "=") (trim_start rest) then Some (trim_start (drop 1 (trim_start rest)))
@@ -88,7 +88,7 @@ placed line from_key rest from_value = record {
   end = (length line - length from_value) + length (value_in from_value);
 }
 
--- where a key with its value stands in a line that begins with it, given what the line begins with
+-- the place of a key with its value in a line that begins with it, given what the line begins with
 abbrev pub pair_of : List ℕ → List ℕ → List ℕ → Option (List ℕ × List ℕ) → Option Pair
 pair_of line key from_key None = None
 pair_of line key from_key (Some (found, rest)) =

@@ -37,7 +37,7 @@ span start end = record { key = start; key_end = end; start = start; end = end }
 abbrev pub remarked : Marked → Pair → Marked
 remarked marked pair = record { line = marked.line; before = marked.before; number = marked.number; pair = pair }
 
--- the whole line, but for the white space at its start
+-- the complete line, except for the white space at its start
 abbrev pub whole : Marked → Marked
 whole marked = remarked marked (span (length marked.line.now - length (trim_start marked.line.now)) (length marked.line.now))
 

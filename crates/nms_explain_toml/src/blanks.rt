@@ -1,4 +1,4 @@
-//! A text without the white space round it (`specs/Blanks`).
+//! A text without the white space around it (`specs/Blanks`).
 ghost use Rattle.std.specs.Prelude.{◌≡◌, ◌≤◌, length};
 ghost use Rattle.nms_explain_toml.specs.Blanks.{trim, trim_end, trim_start};
 
@@ -18,7 +18,7 @@ pub(crate) fn trim_end(text: &[u8]) -> &[u8]
     text.trim_ascii_end()
 }
 
-/// A text without the white space round it.
+/// A text without the white space around it.
 pub(crate) fn trim(text: &[u8]) -> &[u8]
     ensures { result.now ≡ trim text.now }
 {

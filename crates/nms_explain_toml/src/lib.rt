@@ -1,5 +1,5 @@
-//! Why a setup or a mapping is refused, in a report for people: each fault with its line, its table and its key, what was found
-//! and what is expected. Both are TOML texts.
+//! Explaining why a setup or a mapping is refused, in a report for people. Both are TOML texts. It has each fault with its
+//! line, its table and its key, what was found and what is expected.
 #![tactic(auto)]
 
 mod blanks;

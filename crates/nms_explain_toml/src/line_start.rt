@@ -1,4 +1,4 @@
-//! Where a line of a text begins, and what is open there (`specs/Nesting`).
+//! The beginning of a line of a text, and what is open there (`specs/Nesting`).
 ghost use Rattle.std.specs.Prelude.{◌≡◌, ◌+◌, ◌<◌, ◌≤◌, ◌^◌, IfSome, length};
 ghost use Rattle.nms_explain_toml.specs.Marking.{IsOf};
 ghost use Rattle.nms_explain_toml.specs.Nesting.{after_line, outer_nest};
@@ -7,17 +7,17 @@ use crate::marked::{Marked, mark_at};
 use crate::nest::Nest;
 use crate::toml_line::{header_in, names_key, pair_in};
 
-/// Where a line of a text begins.
+/// The beginning of a line of a text.
 #[derive(Clone, Copy)]
 pub(crate) struct LineStart {
-    /// How many bytes stand before it.
+    /// How many bytes come before it.
     pub(crate) bytes: usize,
-    /// The nesting that it lies in: no deeper than bytes stand before it.
+    /// The nesting of the place, which is no deeper than the number of bytes before it.
     pub(crate) nest: Nest,
 }
 
 impl LineStart {
-    /// Before the first line.
+    /// The beginning of the first line.
     pub(crate) fn first() -> LineStart
         ensures bytes { result.bytes ≡ 0 }
         ensures nest { result.nest ≡ outer_nest }
@@ -37,7 +37,7 @@ impl LineStart {
         mark_at(text, self.bytes, self.bytes)
     }
 
-    /// A key of a table, if the line has it, given whether the line is in the table, and whether the table is the top.
+    /// The key of a table, if the line has it. It is given whether the line is in the table, and whether the table is the top.
     pub(crate) fn key_of<'a>(
         self,
         text: &'a [u8],
@@ -63,7 +63,7 @@ impl LineStart {
         Some(self.mark(text).with(pair))
     }
 
-    /// After this line and its end.
+    /// The beginning of the line after this one and its end.
     pub(crate) fn after(self, line: &[u8]) -> LineStart
         requires within { self.bytes + length line.now + 1 < 2 ^ 64 }
         requires depth { self.nest.depth ≤ self.bytes }

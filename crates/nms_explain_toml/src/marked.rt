@@ -11,11 +11,11 @@ use crate::toml_line::Pair;
 pub struct Marked<'a> {
     /// The line, without its end.
     pub line: &'a [u8],
-    /// How many bytes of the text stand before the line.
+    /// How many bytes of the text come before the line.
     pub before: usize,
-    /// The line's number, from 1.
+    /// The line's number, counted from 1.
     pub number: u64,
-    /// The marked key and value, by the bytes of the line: the same if that is no key with its value.
+    /// The marked key and value, by the bytes of the line. Both are the same if there is no key with its value.
     pub pair: Pair,
 }
 
@@ -27,7 +27,7 @@ impl<'a> Marked<'a> {
         bytes_between(self.line, self.pair.start, self.pair.end)
     }
 
-    /// The column at which the carets begin, in characters from 1.
+    /// The column at which the carets begin, in characters counted from 1.
     pub fn column(&self) -> u64
         ensures { result ≡ column_at self.now.line.now self.now.pair.start }
     {
@@ -58,7 +58,7 @@ impl<'a> Marked<'a> {
         self.with(pair)
     }
 
-    /// A key with its value of the same line.
+    /// A key with its value in the same line.
     pub fn with(self, pair: Pair) -> Marked<'a>
         ensures { result ≡ remarked self.entry pair }
     {
@@ -70,7 +70,7 @@ impl<'a> Marked<'a> {
         }
     }
 
-    /// The whole line, without white space round it.
+    /// The complete line, without white space around it.
     pub fn whole(self) -> Marked<'a>
         ensures { result ≡ whole self.entry }
     {
@@ -78,7 +78,7 @@ impl<'a> Marked<'a> {
         self.at(indent, self.line.len())
     }
 
-    /// A line of a text, with white space and its end after it, marked at its start.
+    /// A line of a text, marked at its start. It may have white space and its end after it.
     pub fn of_line(line: &'a [u8], before: usize, number: u64) -> Marked<'a>
         ensures line { result.line.now ≡ trim_end line.now }
         ensures before { result.before ≡ before }
@@ -111,7 +111,7 @@ fn bytes_between(bytes: &[u8], start: usize, end: usize) -> &[u8]
     first_bytes(&bytes[start..], end - start)
 }
 
-/// That many bytes at the start, or all if there are fewer.
+/// The first n bytes, or all if there are fewer.
 fn first_bytes(bytes: &[u8], most: usize) -> &[u8]
     ensures { result.now ≡ take most bytes.now }
 {
@@ -128,7 +128,7 @@ fn begins_character(byte: u8) -> bool
     byte < 128 || byte >= 192
 }
 
-/// How many bytes stand before the first line feed.
+/// How many bytes come before the first line feed.
 fn line_length(rest: &[u8]) -> usize
     ensures value { result ≡ length (take_while (λ byte. not (is_feed byte)) rest.now) }
     ensures within { result ≤ length rest.now }
@@ -136,7 +136,7 @@ fn line_length(rest: &[u8]) -> usize
     rest.iter().take_while(|byte| **byte != b'\n').count()
 }
 
-/// How many bytes stand after the last line feed.
+/// How many bytes come after the last line feed.
 fn bytes_after(before: &[u8]) -> usize
     ensures value { result ≡ length (take_while (λ byte. not (is_feed byte)) (reverse before.now)) }
     ensures within { result ≤ length before.now }
@@ -159,7 +159,7 @@ pub(crate) fn line_from(text: &[u8], begin: usize) -> &[u8]
     &rest[..line_length(rest)]
 }
 
-/// Where the line begins that holds a place.
+/// The place at which the line with a given place begins.
 fn line_begin(text: &[u8], place: usize) -> usize
     requires { place ≤ length text.now }
     ensures value { result ≡ line_begin text.now place }
@@ -168,7 +168,7 @@ fn line_begin(text: &[u8], place: usize) -> usize
     place - bytes_after(&text[..place])
 }
 
-/// The number of the line that holds a place.
+/// The number of the line with a given place.
 fn line_number(text: &[u8], place: usize) -> u64
     ensures { result ≡ line_number text.now place }
 {

@@ -1,4 +1,4 @@
-//! The lines of a report on a TOML text: what is marked there, and what was found.
+//! The lines of a report about a TOML text: what is marked there, and what was found.
 ghost use Rattle.std.specs.Prelude.{◌≡◌, true};
 ghost use Rattle.std.specs.List.{list_all};
 ghost use Rattle.nms_show.specs.Plain.{is_own_plain, is_plain};
@@ -14,7 +14,7 @@ use std::io::Write;
 
 /// Writes the line of a refusal's place, and the text's line with carets under what is marked. It is not flushed.
 ///
-/// What is added is safe to show on a terminal. `WriteFault` leaves a prefix of the lines.
+/// What is added is safe to show on a terminal. After `WriteFault` a prefix of the lines was written.
 pub fn write_marked<'a, W: Write>(
     answers: &mut W,
     form: Form,
@@ -31,7 +31,7 @@ pub fn write_marked<'a, W: Write>(
     write_refused(answers, form, at, code, items, wrong)
 }
 
-/// The place of what is marked in a file, and its line.
+/// The place in a file of the marked part, and its line.
 pub(crate) fn place_in<'a>(file: &'a str, marked: Marked<'a>) -> (Location<'a>, WrongPart<'a>) {
     let at = Location {
         file,
@@ -46,10 +46,10 @@ pub(crate) fn place_in<'a>(file: &'a str, marked: Marked<'a>) -> (Location<'a>, 
     (at, wrong)
 }
 
-/// Writes what stands at a key of a document, and what is expected there; if the text is no document, the parser's message. It
-/// is not flushed.
+/// Writes what was found at a key of a document, and what is expected there. If the text is no document, it writes the parser's
+/// message. It is not flushed.
 ///
-/// What is added is safe to show on a terminal. `WriteFault` leaves a prefix of the lines.
+/// What is added is safe to show on a terminal. After `WriteFault` a prefix of the lines was written.
 pub fn write_finding<'a, W: Write>(
     answers: &mut W,
     form: Form,

@@ -1,5 +1,5 @@
-//! Where a key stands in a TOML text, by the names of the key and of its table. A key in a table in braces, or one with points,
-//! is found at its table.
+//! Finding a key in a TOML text by the names of the key and of its table. A key in a table in braces, or a key with points, is
+//! found at its table.
 ghost use Rattle.std.specs.Prelude.{IfSome};
 ghost use Rattle.nms_explain_toml.specs.Marking.{IsOf};
 
@@ -7,13 +7,12 @@ use crate::line_start::LineStart;
 use crate::marked::{Marked, line_from};
 use crate::toml_line::header_in;
 
-/// Where a key stands in a table; the empty name is the top of the text. For a table that is a key of the top, this is its
-/// header.
+/// The place of a key in a table; the empty name is the top of the text. For a table that is a key of the top, it is its header.
 pub fn locate_named<'a>(text: &'a [u8], table: &[u8], key: &[u8]) -> Option<Marked<'a>>
     ensures { IfSome result (IsOf text.now) }
 {
     let mut start = LineStart::first();
-    // The first line is in no table.
+    // The first line is in no table, so only the top has it.
     let mut is_in = table.is_empty();
     'lines: loop {
         let line = line_from(text, start.bytes);
@@ -30,7 +29,7 @@ pub fn locate_named<'a>(text: &'a [u8], table: &[u8], key: &[u8]) -> Option<Mark
     }
 }
 
-/// Whether what follows a line is in the table, given whether the line is.
+/// Whether the text after a line is in the table, given whether the line is.
 fn is_in_after(line: &[u8], is_in: bool, table: &[u8]) -> bool {
     match header_in(line) {
         Some((name, _)) => !table.is_empty() && name == table,

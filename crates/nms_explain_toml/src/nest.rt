@@ -1,4 +1,4 @@
-//! How deep a place of a TOML text lies: in a text in quotes, in a comment, in the brackets and braces of a value
+//! How deep a place of a TOML text is: in a text in quotes, in a comment, or in the brackets and braces of a value
 //! (`specs/Nesting`).
 ghost use Rattle.std.specs.Prelude.{◌≡◌, ◌==◌, ◌&&◌, ◌<◌, ◌≤◌, ◌+◌, ◌-◌, ◌^◌, length};
 ghost use Rattle.nms_explain_toml.specs.Nesting.{at_depth, after_byte, after_end, after_line, after_plain, after_quoted, entered, is_outer, is_plain, outer_nest};
@@ -6,29 +6,29 @@ ghost use Rattle.nms_explain_toml.specs.Nesting.{at_depth, after_byte, after_end
 /// What a byte is read as.
 #[derive(Clone, Copy)]
 enum Within {
-    /// As TOML's own.
+    /// As a part of the TOML syntax.
     Plain,
-    /// As a text in double quotes, in single ones, or in three of either.
+    /// As a part of a text in double quotes, in single ones, or in three of either.
     Basic,
     Literal,
     LongBasic,
     LongLiteral,
-    /// As a comment.
+    /// As a part of a comment.
     Comment,
 }
 
-/// Where a place lies.
+/// The nesting of a place.
 #[derive(Clone, Copy)]
 pub(crate) struct Nest {
     within: Within,
     /// How many brackets and braces are open.
     depth: usize,
-    /// How many of the next bytes belong to what was just read.
+    /// How many of the next bytes belong to the part that was just read.
     skipped: u8,
 }
 
 impl Nest {
-    /// Before the first byte.
+    /// The nesting before the first byte.
     pub(crate) fn outer() -> Nest
         ensures { result ≡ outer_nest }
     {
@@ -46,7 +46,7 @@ impl Nest {
         self.is_plain() && self.depth == 0
     }
 
-    /// Whether a byte here is TOML's own, if none is skipped.
+    /// Whether a byte here is TOML syntax, if none is skipped.
     fn is_plain(self) -> bool
         ensures { result ≡ is_plain self.within }
     {
@@ -65,14 +65,14 @@ impl Nest {
         self.within == Within::Comment
     }
 
-    /// Whether a byte here is TOML's own, with n brackets and braces open.
+    /// Whether a byte here is TOML syntax, with n brackets and braces open.
     pub(crate) fn is_plain_at(self, depth: usize) -> bool
         ensures { result ≡ ((is_plain self.within && self.skipped == 0) && self.depth == depth) }
     {
         self.is_plain() && self.skipped == 0 && self.depth == depth
     }
 
-    /// After the first byte of what follows, which may be the end of a line.
+    /// The nesting after the first byte of the rest, which may be the end of a line.
     pub(crate) fn after(self, rest: &[u8]) -> Nest
         requires { self.depth + 1 < 2 ^ 64 }
         ensures depth { result.depth ≤ self.depth + 1 }
@@ -84,7 +84,7 @@ impl Nest {
         }
     }
 
-    /// After a line and its end.
+    /// The nesting after a line and its end.
     pub(crate) fn after_line(self, line: &[u8]) -> Nest
         requires { self.depth + length line.now < 2 ^ 64 }
         ensures value { result ≡ after_line self line.now }
@@ -97,7 +97,7 @@ impl Nest {
         nest.after_end()
     }
 
-    /// After the end of a line: a comment ends there, and a text in single quotes.
+    /// The nesting after the end of a line, at which a comment ends, and a text in single quotes.
     fn after_end(self) -> Nest
         ensures value { result ≡ after_end self }
         ensures depth { result.depth ≡ self.depth }
@@ -110,7 +110,7 @@ impl Nest {
         self.entering(within, 0)
     }
 
-    /// After the first byte of what follows.
+    /// The nesting after the first byte of the rest.
     pub(crate) fn after_byte(self, rest: &[u8]) -> Nest
         requires { self.depth + 1 < 2 ^ 64 }
         ensures value { result ≡ after_byte self rest.now }
@@ -129,7 +129,7 @@ impl Nest {
         }
     }
 
-    /// After a byte of TOML's own.
+    /// The nesting after a byte of TOML syntax.
     fn after_plain(self, rest: &[u8]) -> Nest
         requires { self.depth + 1 < 2 ^ 64 }
         ensures value { result ≡ after_plain self rest.now }
@@ -159,14 +159,14 @@ impl Nest {
         self
     }
 
-    /// After a bracket or a brace that closes. One that closes nothing leaves none open.
+    /// The nesting after a bracket or a brace that closes. One that closes nothing leaves none open.
     fn closed(self) -> Nest
         ensures { result ≡ at_depth (self.depth - 1) self }
     {
         self.at_depth(if self.depth == 0 { 0 } else { self.depth - 1 })
     }
 
-    /// After a byte of a text in these quotes, which have n bytes after the first. A backslash may escape a byte.
+    /// The nesting after a byte of a text in these quotes, which have n bytes after the first. A backslash may escape a byte.
     fn after_quoted(self, rest: &[u8], quotes: &[u8], more: u8, escapes: bool) -> Nest
         ensures value { result ≡ after_quoted quotes.now more escapes self rest.now }
         ensures depth { result.depth ≡ self.depth }
@@ -180,7 +180,7 @@ impl Nest {
         self
     }
 
-    /// What follows is read as that, after as many bytes as are skipped.
+    /// The nesting in which the rest is read as the given kind, after the skipped bytes.
     fn entering(self, within: Within, skipped: u8) -> Nest
         ensures { result ≡ entered within skipped self }
     {
@@ -191,7 +191,7 @@ impl Nest {
         }
     }
 
-    /// With n brackets and braces open.
+    /// The nesting with n brackets and braces open.
     fn at_depth(self, depth: usize) -> Nest
         ensures { result ≡ at_depth depth self }
     {

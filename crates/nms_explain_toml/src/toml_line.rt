@@ -41,16 +41,16 @@ fn unquoted(name: &[u8]) -> &[u8]
 /// A key with its value, by the bytes of their line.
 #[derive(Clone, Copy)]
 pub struct Pair {
-    /// How many bytes stand before the key, and before its end.
+    /// How many bytes come before the key, and before its end.
     pub key: usize,
     pub key_end: usize,
-    /// How many stand before the value, and before its end.
+    /// How many bytes come before the value, and before its end.
     pub start: usize,
     pub end: usize,
 }
 
 impl Pair {
-    /// The same, moved by n bytes.
+    /// The same pair, moved by n bytes.
     pub(crate) fn moved(self, bytes: usize) -> Pair
         requires key { self.key + bytes < 2 ^ 64 }
         requires key_end { self.key_end + bytes < 2 ^ 64 }
@@ -67,7 +67,7 @@ impl Pair {
     }
 }
 
-/// Where a key with its value stands in a line that begins with it. If the key has points, it is the whole line.
+/// The place of a key with its value in a line that begins with it. If the key has points, it is all of the line.
 pub(crate) fn pair_in(line: &[u8], key: &[u8]) -> Option<Pair>
     ensures value { result ≡ pair_in line.now key.now }
     ensures within { IfSome result (IsIn (length line.now)) }
@@ -87,7 +87,7 @@ pub(crate) fn pair_in(line: &[u8], key: &[u8]) -> Option<Pair>
     })
 }
 
-/// What stands after the `=` of a key; from the key on if a point stands there.
+/// The text after the `=` of a key. If there is a point after the key, it is the text from the key on.
 fn value_after<'a>(from_key: &'a [u8], rest: &'a [u8]) -> Option<&'a [u8]>
     requires { length rest.now ≤ length from_key.now }
     ensures value { option_map (λ from. from.now) result ≡ value_after from_key.now rest.now }
@@ -120,7 +120,7 @@ fn is_dotted(name: &[u8], key: &[u8]) -> bool
     }
 }
 
-/// The key that a text begins with, bare or in quotes, and what stands after it.
+/// The key at the beginning of a text, bare or in quotes, and the text after it.
 pub(crate) fn key_at(text: &[u8]) -> Option<(&[u8], &[u8])>
     ensures value { option_map (λ found. (found.0.now, found.1.now)) result ≡ key_at text.now }
     ensures within { IfSome result (λ found. length found.1.now ≤ length text.now) }
@@ -142,7 +142,7 @@ fn quoted_key(quote: u8, text: &[u8]) -> Option<(&[u8], &[u8])>
     Some((&text[..end], &text[end + 1..]))
 }
 
-/// How many bytes stand before the first of that value, if there is one.
+/// How many bytes come before the first byte with that value, if there is one.
 fn place_of(byte: u8, text: &[u8]) -> Option<usize>
     ensures value { result ≡ position (λ each. each == byte) text.now }
     ensures within { IfSome result (λ place. place < length text.now) }
@@ -161,7 +161,7 @@ fn bare_key(text: &[u8]) -> Option<(&[u8], &[u8])>
     Some((&text[..end], &text[end..]))
 }
 
-/// How many bytes at the start of a text may stand in a key without quotes.
+/// How many bytes at the start of a text are allowed in a key without quotes.
 fn bare_length(text: &[u8]) -> usize
     ensures value { result ≡ length (take_while is_bare text.now) }
     ensures within { result ≤ length text.now }
@@ -169,14 +169,14 @@ fn bare_length(text: &[u8]) -> usize
     text.iter().take_while(|byte| is_bare(**byte)).count()
 }
 
-/// Whether a byte may stand in a key without quotes.
+/// Whether a byte is allowed in a key without quotes.
 fn is_bare(byte: u8) -> bool
     ensures { result ≡ is_bare byte }
 {
     byte.is_ascii_alphanumeric() || byte == b'_' || byte == b'-'
 }
 
-/// The value that a text begins with: it ends before a comment, or before the bracket or brace that closes it.
+/// The value at the beginning of a text. It ends before a comment, or before the bracket or brace that closes it.
 pub(crate) fn value_in(rest: &[u8]) -> &[u8]
     ensures value { result.now ≡ value_in rest.now }
     ensures within { length result.now ≤ length rest.now }
@@ -184,7 +184,7 @@ pub(crate) fn value_in(rest: &[u8]) -> &[u8]
     trim_end(&rest[..value_length(rest)])
 }
 
-/// How many bytes stand before the end of the value.
+/// How many bytes come before the end of the value.
 fn value_length(rest: &[u8]) -> usize
     ensures value { result ≡ value_length outer_nest rest.now }
     ensures within { result ≤ length rest.now }
@@ -199,14 +199,14 @@ fn value_length(rest: &[u8]) -> usize
     rest.len()
 }
 
-/// Whether a value ends before a byte that lies so.
+/// Whether a value ends before a byte with this nesting.
 fn ends_here(nest: Nest, byte: u8) -> bool
     ensures { result ≡ (is_free nest && ends_value byte) }
 {
     nest.is_plain_at(0) && ends_value(byte)
 }
 
-/// Whether a value ends before a byte of TOML's own.
+/// Whether a value ends before a byte of TOML syntax.
 fn ends_value(byte: u8) -> bool
     ensures { result ≡ ends_value byte }
 {

@@ -1,4 +1,4 @@
--- A table of a document, and an array, beside the map and the vector that hold them.
+-- A table of a document, and an array, with the map and the vector that hold them.
 use Rattle.std.proofs.Common.{◌≡◌, ℕ, suc, List, [], ◌∷◌, String, Global, string_bytes, map, length, refl, ap}
 use Rattle.std.specs.Map.{keys_of}
 use Rattle.toml.specs.View.{items_view, members_view, view}

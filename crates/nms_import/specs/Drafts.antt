@@ -9,7 +9,7 @@ use Rattle.nms_import.specs.declared.draft.Meant.{Meant}
 use Rattle.nms_import.specs.declared.keys.Kind.{Kind}
 use Rattle.nms_import.specs.Keys.{Key, all_keys, see}
 
--- a name that a document has in the place of a key, whose table's name is empty for the top
+-- a name that a document has instead of a key, whose table's name is empty for the top
 pub record Name : Type 0 where
   pub table : List ℕ
   pub key : List ℕ
@@ -39,7 +39,7 @@ doc_of draft =
 abbrev pub plain : Kind → Members → Doc
 plain kind document = record { keys = all_keys; kind = kind; members = document; meant = [] }
 
--- the name that stands for a key: one that is taken for it, else its own
+-- the name for a key: one that is taken for it, else its own
 abbrev pub written_as : List Name → (table key : List ℕ) → List ℕ
 written_as [] table key = key
 written_as (it ∷ meant) table key =

@@ -2,7 +2,7 @@
 use Rattle.std.specs.Prelude.{◌≡◌, ℕ, pos, codes, List, [], ◌∷◌, Some, None}
 use Rattle.toml.specs.Data.{Members, array, integer, item, member, no_items, no_members, string, table}
 use Rattle.nms_import.specs.declared.keys.Kind.TheVariants as kind
-use Rattle.nms_import.specs.declared.keys.TheConstants.{A_NUMBER, IN_NO_OTHER}
+use Rattle.nms_import.specs.declared.keys.TheConstants.{ASKED, A_NUMBER, IN_NO_OTHER}
 use Rattle.nms_import.specs.declared.map_fault.Wrong.TheVariants as wrong
 use Rattle.nms_import.specs.Drafts.{Doc, Name, plain}
 use Rattle.nms_import.specs.Findings.{fault, faults_of}
@@ -22,6 +22,14 @@ flags =
     member (codes "flags") (table (member (codes "nothing") (array (item (string (codes "@")) (item (string (codes "F")) no_items)))
     (member (codes "sweep") (array (item (string (codes "F")) no_items)) no_members))) no_members
 
+-- a mapping of quotes by numbers of columns, whose offer has this name; and more columns
+abbrev pub quotes : (offer : List ℕ) → (more : Members) → Members
+quotes offer more =
+    member (codes "column") (table (member (codes "time") (integer (pos 1)) (member (codes "participant") (integer (pos 2))
+    (member (codes "symbol") (integer (pos 3)) (member (codes "bid") (integer (pos 4)) (member (codes "bid_size") (integer (pos 5))
+    (member offer (integer (pos 6)) (member (codes "ask_size") (integer (pos 7)) more))))))))
+    (member (codes "size") (table (member (codes "unit") (string (codes "shares")) no_members)) no_members)
+
 -- a document in which prize is taken for price
 abbrev pub renamed : Doc
 renamed = record {
@@ -37,5 +45,8 @@ pub record FaultExamplesHold : Type 0 where
   pub a_misspelt_key : faults_of (plain kind.Trades (trades (codes "prize") no_members))
       ≡ fault (codes "column") (codes "prize") None wrong.Unknown [] ∷ fault (codes "column") (codes "price") None wrong.Missing A_NUMBER.now ∷ []
   pub the_key_that_was_meant : faults_of renamed ≡ fault (codes "column") (codes "prize") None wrong.Unknown [] ∷ []
+  pub ask_is_offer : faults_of (plain kind.Quotes (quotes (codes "ask") no_members)) ≡ []
+  pub ask_and_offer : faults_of (plain kind.Quotes (quotes (codes "ask") (member (codes "offer") (integer (pos 8)) no_members)))
+      ≡ fault (codes "column") (codes "ask") None wrong.BadValue ASKED.now ∷ []
   pub a_letter_in_two_lists : faults_of (plain kind.Trades (trades (codes "price") flags))
       ≡ fault (codes "flags") (codes "nothing") (Some 1) wrong.BadValue IN_NO_OTHER.now ∷ []

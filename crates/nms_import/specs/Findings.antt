@@ -15,7 +15,7 @@ use Rattle.nms_import.specs.declared.map_fault.MapFault.TheVariants as refusal
 use Rattle.nms_import.specs.declared.map_fault.Wrong.{Wrong}
 use Rattle.nms_import.specs.declared.map_fault.Wrong.TheVariants as wrong
 use Rattle.nms_import.specs.Drafts.{Doc, items_at, items_in, members_at, names_in, value_at}
-use Rattle.nms_import.specs.Forms.{column_expected, is_right}
+use Rattle.nms_import.specs.Forms.{column_expected, has_named, is_right}
 use Rattle.nms_import.specs.Keys.{Key, is_columns, is_key, is_list, is_name, is_of, is_one_column, is_others}
 
 -- a fault: its table and key, the place in the key's list if a word of it is wrong, what is wrong, and what is expected
@@ -63,7 +63,7 @@ form_expected draft key value =
     else (if is_columns key.form || is_one_column key.form then column_expected draft
     else (if is_list key.form then A_LIST.now else key.expected))
 
--- what is expected in the place of a value that is not right, and no list
+-- what is expected instead of a value that is not right, and no list
 abbrev pub value_expected : Doc → Key → Data → Option (List ℕ)
 value_expected draft key value = if is_right draft key value then None else Some (form_expected draft key value)
 
@@ -84,7 +84,7 @@ is_among_lists draft key text (other ∷ others) =
 abbrev pub is_earlier : Doc → Key → (text : List ℕ) → Bool
 is_earlier draft key text = is_among_lists draft key text draft.keys
 
--- whether a text of a list is wrong, with these before and after it: a pair has two texts of one byte, a condition stands once
+-- whether a text of a list is wrong, with these before and after it: a pair has two texts of one byte, a condition is there once
 abbrev pub is_wrong : Form → Doc → Key → (before : List Data) → (text : List ℕ) → (after : List Data) → Bool
 is_wrong form.Pairs draft key before text after =
     not (nat_eq (length text) 1) || (nat_eq (length after) 0 && nat_eq (length before % 2) 0)
@@ -93,18 +93,18 @@ is_wrong form.Letters draft key before text after = not (nat_eq (length text) 1)
 is_wrong form.Others draft key before text after = not (nat_eq (length text) 1)
 is_wrong _ draft key before text after = false
 
--- what is expected in the place of a text of a list, if it is wrong
+-- what is expected instead of a text of a list, if it is wrong
 abbrev pub text_expected : Doc → Key → (before : List Data) → (text : List ℕ) → (after : List Data) → Option (List ℕ)
 text_expected draft key before text after =
     if is_wrong key.form draft key before text after then Some key.expected
     else (if is_others key.form && is_earlier draft key text then Some IN_NO_OTHER.now else None)
 
--- what is expected in the place of a word that is to be a text
+-- what is expected instead of a word that is to be a text
 abbrev pub listed_expected : Doc → Key → (before : List Data) → (word : Data) → (after : List Data) → Option (List ℕ)
 listed_expected draft key before word after =
     option_map_or (λ text. text_expected draft key before text after) (as_str word) (Some A_LIST.now)
 
--- what is expected in the place of a word of a list, if it is wrong: of two columns each is one
+-- what is expected instead of a word of a list, if it is wrong: each of two columns is a column
 abbrev pub column_wrong : Doc → Key → Data → Option (List ℕ)
 column_wrong draft key word = if is_right draft key word then None else Some (column_expected draft)
 
@@ -131,12 +131,16 @@ value_faults draft key value =
 abbrev pub absent_expected : Doc → Key → List ℕ
 absent_expected draft key = if nat_eq (length key.expected) 0 then column_expected draft else key.expected
 
--- a key that is needed, and absent
+-- whether another key is in place of a column's
+abbrev pub is_replaced : Doc → Key → Bool
+is_replaced draft key = is_one_column key.form && has_named draft key
+
+-- a key that is needed, and absent, as is any in its place
 abbrev pub absent_faults : Doc → Key → List Fault
 absent_faults draft key =
-    if key.needed then fault key.table key.name None wrong.Missing (absent_expected draft key) ∷ [] else []
+    if key.needed && not (is_replaced draft key) then fault key.table key.name None wrong.Missing (absent_expected draft key) ∷ [] else []
 
--- what is expected in the place of a name of a participant: a text, of `*` the text `same`
+-- what is expected instead of a name of a participant: a text; for `*` the text `same`
 abbrev pub name_as : Key → (name : List ℕ) → Option (List ℕ) → Option (List ℕ)
 name_as key name None = Some key.expected
 name_as key name (Some text) =
@@ -196,7 +200,7 @@ tables_faults draft (key ∷ more) =
 abbrev pub faults_of : Doc → List Fault
 faults_of draft = table_faults draft [] ++ tables_faults draft draft.keys
 
--- a fault is the first of these, or memory ran out
+-- a fault is the first of these, or out of memory
 abbrev pub IsFirst : List Fault → MapFault → Type 0
 IsFirst found (refusal.Refused finding) = slice_get found 0 ≡ Some (fault_of finding)
 IsFirst found refusal.NoMemory = Unit {0}

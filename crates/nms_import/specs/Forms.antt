@@ -11,7 +11,7 @@ use Rattle.nms_units.specs.declared.TheConstants.{MOST_LOT}
 use Rattle.nms_import.specs.declared.keys.Form.{Form}
 use Rattle.nms_import.specs.declared.keys.Form.TheVariants as form
 use Rattle.nms_import.specs.declared.keys.TheConstants.{A_NAME, A_NUMBER}
-use Rattle.nms_import.specs.declared.right.TheConstants.{MOST_COLUMNS}
+use Rattle.nms_import.specs.declared.right.TheConstants.{MOST_BITS, MOST_COLUMNS}
 use Rattle.nms_import.specs.Drafts.{Doc, names_in, value_at}
 use Rattle.nms_import.specs.Keys.{Key}
 
@@ -55,10 +55,26 @@ fixed_in whole =
 abbrev pub fixed_text : Data → Option (List ℕ)
 fixed_text value = option_and_then fixed_in (as_table value)
 
--- a column: its number, its name if there is a header, or a table with the text for it
+-- where a column is: its number, or its name if there is a header
+abbrev pub is_place : (header : Bool) → Data → Bool
+is_place header value = if is_some (as_str value) then header else is_number MOST_COLUMNS value
+
+-- a table { column = COLUMN, bits = NUMBER }
+abbrev pub are_bits_in : (header : Bool) → Members → Bool
+are_bits_in header whole =
+    nat_eq (length (names_in whole)) 2 && option_map_or (is_place header) (get_member (codes "column") whole) false
+    && option_map_or (is_number MOST_BITS) (get_member (codes "bits") whole) false
+
+abbrev pub are_bits : (header : Bool) → Data → Bool
+are_bits header value = option_map_or (are_bits_in header) (as_table value) false
+
+-- a column: its place, or a table with the text for it, or with the bits that are read
 abbrev pub is_column : (header : Bool) → Data → Bool
-is_column header value =
-    if is_some (as_str value) then header else (is_number MOST_COLUMNS value || is_some (fixed_text value))
+is_column header value = is_place header value || is_some (fixed_text value) || are_bits header value
+
+-- whether a table has one of the keys that a key's words name
+abbrev pub has_named : Doc → Key → Bool
+has_named draft key = list_any (λ word. is_some (value_at draft key.table word)) key.words
 
 -- the shares of a lot, or the setup's lot of each symbol
 abbrev pub is_lot : Data → Bool
@@ -75,7 +91,8 @@ is_size_unit draft value = option_map_or (is_unit (value_at draft (codes "size")
 
 -- whether times have a date, and so a zone; a form that is none hides no fault of the zone
 abbrev pub is_dated : List ℕ → Bool
-is_dated text = not (bytes_eq text (codes "HHMMSSn")) && not (bytes_eq text (codes "seconds"))
+is_dated text =
+    not (bytes_eq text (codes "HHMMSSn")) && not (bytes_eq text (codes "HH:MM:SS")) && not (bytes_eq text (codes "seconds"))
 
 abbrev pub has_dates : Doc → Bool
 has_dates draft =
@@ -98,6 +115,10 @@ zone_in (sign ∷ digits) = if nat_eq (length digits) 4 then option_and_then (zo
 abbrev pub is_zone : Data → Bool
 is_zone value = option_map_or (λ text. is_some (zone_in text)) (as_str value) false
 
+-- whether there is an offset of times
+abbrev pub has_offset : Doc → Bool
+has_offset draft = is_some (value_at draft (codes "time") (codes "zone_offset"))
+
 -- a value of a form that is no list
 abbrev pub is_of_form : Form → Doc → Key → Data → Bool
 is_of_form form.Table draft key value = is_some (as_table value)
@@ -108,9 +129,11 @@ is_of_form form.Text draft key value = is_some (as_str value)
 is_of_form form.Count draft key value = is_count draft value
 is_of_form form.Column draft key value = is_column (has_header draft) value
 is_of_form form.Columns draft key value = is_column (has_header draft) value
+is_of_form form.Instead draft key value = is_column (has_header draft) value && not (has_named draft key)
 is_of_form form.SizeUnit draft key value = is_size_unit draft value
 is_of_form form.Lot draft key value = is_lot value
 is_of_form form.Zone draft key value = has_dates draft && is_zone value
+is_of_form form.ZoneName draft key value = has_dates draft && is_among key.words value && not (has_offset draft)
 is_of_form _ draft key value = false
 
 abbrev pub is_right : Doc → Key → Data → Bool

@@ -21,7 +21,7 @@ entry_in (Err why) = None
 abbrev pub accepted : Columns → Meanings → Listing → List Record → List Entry
 accepted columns mapping roster rows = filter_map (λ row. entry_in (entry_of columns mapping roster row)) rows
 
--- the last 15 digits of a number; of a time they are HHMMSSnnnnnnnnn
+-- the last 15 digits of a number; those of a time are HHMMSSnnnnnnnnn
 abbrev pub fifteen_digits : ℕ → List ℕ
 fifteen_digits n =
     three_digits (n / 1000000000000) ++ three_digits (n / 1000000000) ++ three_digits (n / 1000000) ++ three_digits (n / 1000)
@@ -66,7 +66,7 @@ last_after last (Some entry) = entry.time
 abbrev pub given_row : Columns → Meanings → Listing → (last number : ℕ) → Record → List Given
 given_row columns mapping roster last number row = numbered number (given_by columns mapping roster last row)
 
--- what rows give, in order; so many rows stand before them
+-- what rows give, in order, after the given number of rows
 abbrev pub given_from : Columns → Meanings → Listing → (last before : ℕ) → List Record → List Given
 given_from columns mapping roster last before [] = []
 given_from columns mapping roster last before (row ∷ rows) =
@@ -87,7 +87,7 @@ changes_given roster given = changes_text roster (map (λ it. it.entry.change) g
 abbrev pub times_given : (numbers : Bool) → List Given → List ℕ
 times_given numbers given = flat_map (λ it. line_of numbers it.row it.entry.time) given
 
--- how many of them have a condition that makes one side alone manual
+-- how many of them have a condition that makes only one side manual
 abbrev pub one_sided : Columns → Meanings → Listing → List Record → ℕ
 one_sided columns mapping roster rows = length (filter (λ entry. entry.one_sided) (accepted columns mapping roster rows))
 

@@ -1,4 +1,4 @@
--- The table of the keys of a mapping, which stands in `src/keys`. This product's own rule.
+-- The table of the keys of a mapping, which is in `src/keys`. This product's own rule.
 use Rattle.std.specs.Prelude.{ℕ, codes, Bool, true, false, ◌&&◌, ◌||◌, List, map}
 use Rattle.std.specs.Borrow.{Bor}
 use Rattle.std.specs.List.{list_any}
@@ -9,7 +9,7 @@ use Rattle.nms_import.specs.declared.keys.Kind.{Kind}
 use Rattle.nms_import.specs.declared.keys.Kind.TheVariants as kind
 use Rattle.nms_import.specs.declared.keys.TheConstants.{KEYS}
 
--- what stands at a key: names of participants; a column or two; a column; texts; letters that claim nothing
+-- what is at a key: names of participants; a column or two; a column; another key's column; texts; letters that claim nothing
 abbrev pub is_name : Form → Bool
 is_name form.Name = true
 is_name _ = false
@@ -21,6 +21,10 @@ is_columns _ = false
 abbrev pub is_one_column : Form → Bool
 is_one_column form.Column = true
 is_one_column _ = false
+
+abbrev pub is_instead : Form → Bool
+is_instead form.Instead = true
+is_instead _ = false
 
 abbrev pub is_list : Form → Bool
 is_list form.Words = true
@@ -35,7 +39,8 @@ is_others form.Others = true
 is_others _ = false
 
 -- a key: its table, empty for the top; its name; whether mappings of quotes, of trades and of national bests have it; its form;
--- whether it is needed; the words of a choice; what is expected, empty for a column
+-- whether it is needed; the words of a choice, or of a column the keys that may be in its place or in whose place it may be; what is expected,
+-- empty for a column
 pub record Key : Type 0 where
   pub table : List ℕ
   pub name : List ℕ
@@ -86,7 +91,7 @@ has kind.Bests kinds = kinds.2
 abbrev pub is_of : Kind → (table : List ℕ) → Key → Bool
 is_of kind table key = has kind key.kinds && bytes_eq key.table table
 
--- whether a table has a key of a name; `*` stands for any
+-- whether a table has a key of a name; `*` is for any
 abbrev pub is_key : List Key → Kind → (table name : List ℕ) → Bool
 is_key keys kind table name =
     list_any (λ key. is_of kind table key && (bytes_eq key.name name || bytes_eq key.name (codes "*"))) keys

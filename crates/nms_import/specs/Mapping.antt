@@ -1,12 +1,12 @@
 -- What a mapping makes of a row of a vendor's file: a change and its time, or the first cause why it makes none. This
 -- product's own rule.
-use Rattle.std.specs.Prelude.{ℕ, ◌*◌, ◌/◌, ◌%◌, ◌==◌, ◌&&◌, ◌||◌, Bool, true, false, List, [], ◌∷◌, length, map}
-use Rattle.std.specs.Prelude.{not, take, drop, position, slice_get}
-use Rattle.std.specs.Prelude.{nat_le, nat_lt, Option, Some, None, option_map, Result, Ok, Err, if◌then◌else◌}
-use Rattle.std.specs.List.{list_any}
+use Rattle.std.specs.Prelude.{ℕ, ◌+◌, ◌-◌, ◌*◌, ◌/◌, ◌%◌, ◌==◌, ◌&&◌, ◌||◌, codes, Bool, true, false, List, [], ◌∷◌, length, map}
+use Rattle.std.specs.Prelude.{not, take, drop, position, slice_get, bit_and}
+use Rattle.std.specs.Prelude.{nat_eq, nat_le, nat_lt, Option, Some, None, option_map, Result, Ok, Err, if◌then◌else◌}
+use Rattle.std.specs.List.{list_all, list_any}
 use Rattle.std.specs.Option.{option_map_or}
 use Rattle.std.specs.Str.{bytes_eq}
-use Rattle.nms_units.specs.Digits.{number_in}
+use Rattle.nms_units.specs.Digits.{number_in, point_in}
 use Rattle.nms_units.specs.Price.{price_number}
 use Rattle.nms_units.specs.declared.TheConstants.{MOST_PRICE, MOST_SHARES}
 use Rattle.nms_quote.specs.Content.{Content}
@@ -55,10 +55,15 @@ abbrev pub or_stop : {A : Type 0} → Option A → Cause → Result A Cause
 or_stop None why = Err why
 or_stop (Some x) why = Ok x
 
--- the text of a column in a row: its field, or the text that the mapping fixes
+-- 1 if a number has any of some bits, 0 if it has none; another text as it is
+abbrev pub bits_text : (bits : ℕ) → List ℕ → List ℕ
+bits_text bits text = option_map_or (λ n. if bit_and n bits == 0 then codes "0" else codes "1") (number_in 9 text) text
+
+-- the text of a column in a row: its field, the text that the mapping fixes, or whether its number has any of some bits
 abbrev pub column_text : Column → Record → List ℕ
 column_text (column.At place) row = field row place
 column_text (column.Fixed text) row = text.items
+column_text (column.Bits place bits) row = bits_text bits (field row place)
 
 -- whether a text is one of the words
 abbrev pub is_listed : List Word → List ℕ → Bool
@@ -66,14 +71,37 @@ is_listed words text = list_any (λ word. bytes_eq word.text.items text) words
 
 -- ---- prices and sizes
 
+-- a number without the zeros after its first decimals; without its point too, if none are kept
+abbrev pub is_zero : ℕ → Bool
+is_zero c = c == 48
+
+abbrev pub has_more_zeros : (decimals : ℕ) → List ℕ → (point : ℕ) → Bool
+has_more_zeros decimals text point =
+    nat_lt decimals (length text - point - 1) && list_all is_zero (drop (point + 1 + decimals) text)
+
+abbrev pub cut_at : (decimals : ℕ) → List ℕ → (point : ℕ) → List ℕ
+cut_at decimals text point =
+    if has_more_zeros decimals text point then (if nat_eq decimals 0 then take point text else take (point + 1 + decimals) text)
+    else text
+
+abbrev pub without_zeros : (decimals : ℕ) → List ℕ → List ℕ
+without_zeros decimals text = option_map_or (cut_at decimals text) (point_in text) text
+
+-- the text for a number that is lacking, in any file
+abbrev pub is_nan : List ℕ → Bool
+is_nan text = bytes_eq text (codes "nan") || bytes_eq text (codes "NaN")
+
+abbrev pub is_lacking : List ℕ → Bool
+is_lacking text = is_empty text || is_nan text
+
 -- hundred thousands, if there is no rest
 abbrev pub hundred_thousands : Option ℕ → Option ℕ
 hundred_thousands None = None
 hundred_thousands (Some n) = if n % 100000 == 0 then Some (n / 100000) else None
 
--- a price in 1/10,000 dollar, zero among them: dollars with at most 4 decimals, or a whole number of the unit
+-- a price in 1/10,000 dollar, which may be zero: dollars of which at most 4 decimals count, or a whole number of the unit
 abbrev pub number_of : PriceUnit → List ℕ → Option ℕ
-number_of unit.Dollars text = price_number text
+number_of unit.Dollars text = price_number (without_zeros 4 text)
 number_of unit.TenThousandths text = number_in 11 text
 number_of unit.Nanodollars text = hundred_thousands (number_in 19 text)
 
@@ -83,10 +111,10 @@ price_within side None = Err (cause.BadPrice side)
 price_within side (Some n) =
     if n == 0 then Ok None else (if nat_le n MOST_PRICE then Ok (Some n) else Err (cause.BadPrice side))
 
--- a price, or none: an empty field, a word for none, or zero
+-- a price, or none: an empty field, nan, a word for none, or zero
 abbrev pub price_of : Meanings → Side → List ℕ → Result (Option ℕ) Cause
 price_of mapping side text =
-    if is_empty text || is_listed mapping.no_price.items text then Ok None
+    if is_lacking text || is_listed mapping.no_price.items text then Ok None
     else price_within side (number_of mapping.price_unit text)
 
 abbrev pub shares_within : Side → Option ℕ → Result ℕ Cause
@@ -98,11 +126,11 @@ abbrev pub unit_for : Meanings → Listing → (sym : ℕ) → ℕ
 unit_for mapping roster sym =
     if mapping.own_lots then option_map_or (λ entry. entry.1) (slice_get roster.syms sym) 1 else mapping.size_unit
 
--- shares: the number times the shares of a unit; an empty field is 0
+-- shares: the number times the shares of a unit; an empty field and nan are 0
 abbrev pub shares_of : (unit : ℕ) → Side → List ℕ → Result ℕ Cause
 shares_of unit side text =
-    if is_empty text then Ok 0
-    else shares_within side (option_map (λ n. n * unit) (number_in 9 text))
+    if is_lacking text then Ok 0
+    else shares_within side (option_map (λ n. n * unit) (number_in 9 (without_zeros 0 text)))
 
 abbrev pub quoted : Side → Option ℕ → ℕ → Result (Option Content) Cause
 quoted side None shares = Err (cause.HalfSide side)
@@ -149,7 +177,7 @@ place_named roster (Some name) = place_in roster.parts name
 abbrev pub participant_of : Meanings → Listing → List ℕ → Result ℕ Cause
 participant_of mapping roster word = or_stop (place_named roster (name_of mapping word)) cause.UnknownParticipant
 
--- a byte, or what stands in its place in a name of the roster
+-- a byte, or the one that replaces it in a name of the roster
 abbrev pub replaced : List Replaced → ℕ → ℕ
 replaced [] c = c
 replaced (it ∷ more) c = if c == it.from then it.to else replaced more c
@@ -178,7 +206,7 @@ abbrev pub meaning_of : Meanings → (first second : List ℕ) → Result Meanin
 meaning_of mapping first second =
     or_stop (said_at mapping.said.items (position (λ it. is_joined first second it.word.items) mapping.said.items)) cause.UnknownCondition
 
--- no record says that one side alone is manual: the row is refused, or both sides are in the state that the mapping chose
+-- no record says that only one side is manual: the row is refused, or both sides are in the state that the mapping chose
 abbrev pub half_state : Half → Side → Result (Option QState) Cause
 half_state half.Refuse side = Err (cause.OneSided side)
 half_state half.Manual side = Ok (Some Manual)
@@ -190,7 +218,7 @@ state_of mapping meaning.Nothing = Ok None
 state_of mapping (meaning.Quoted state) = Ok (Some state)
 state_of mapping (meaning.ManualSide side) = half_state mapping.half side
 
--- one side alone is manual
+-- only one side is manual
 abbrev pub is_one_sided : Meaning → Bool
 is_one_sided meaning.Nothing = false
 is_one_sided (meaning.Quoted state) = false
@@ -243,7 +271,7 @@ withdrawal_of columns mapping roster last line =
     (participant_of mapping roster (column_text columns.participant line))
     (symbol_in mapping roster (column_text columns.symbol line))
 
--- what a row leaves that makes no change of its own: a refused one a withdrawal, unless the mapping keeps what stood before
+-- the change that a row leaves if it makes none: for a refused one a withdrawal, unless the mapping keeps the earlier quotation
 abbrev pub left_by : Columns → Meanings → Listing → (last : ℕ) → Record → Cause → Option Entry
 left_by columns mapping roster last line why =
     if mapping.withdraws && not (is_skipped why) then withdrawal_of columns mapping roster last line else None

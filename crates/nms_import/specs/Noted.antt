@@ -54,7 +54,7 @@ with_outside count time = if is_outside time then count + 1 else count
 abbrev pub span_of : Noted → (sym : ℕ) → Option Span
 span_of noted sym = unwrap_or (slice_get noted.spans sym) None
 
--- the time that a change may not be before: that of the last change, or of the last of its own symbol, or none
+-- the time that a change may not be before: that of the last change, or of its symbol's last change, or none
 abbrev pub bound_by : Order → (time : ℕ) → Option Span → ℕ
 bound_by order.Given time span = time
 bound_by order.Symbol time span = option_map_or (λ it. it.time) span 0

@@ -1,5 +1,5 @@
--- Where a mapping's columns stand in a file, by the file's first row. This product's own rule.
-use Rattle.std.specs.Prelude.{ℕ, ◌≡◌, ◌+◌, List, Option, Some, None, option_and_then}
+-- Where a mapping's columns are in a file, by the file's first row. This product's own rule.
+use Rattle.std.specs.Prelude.{ℕ, ◌≡◌, ◌+◌, ◌==◌, List, Option, Some, None, option_and_then, if◌then◌else◌}
 use Rattle.csv.specs.Records.{field_at}
 use Rattle.nms_lines.specs.Layout.{Record}
 use Rattle.nms_import.specs.declared.column.Column.{Column}
@@ -13,22 +13,34 @@ use Rattle.nms_import.specs.declared.mapping.Source.TheVariants as source
 abbrev pub column_place : Column → Option ℕ
 column_place (column.At place) = Some place
 column_place (column.Fixed text) = None
+column_place (column.Bits place bits) = None
+
+-- the place of a column of which some bits are read
+abbrev pub bits_place : (bits : ℕ) → Column → Option ℕ
+bits_place bits (column.At place) = None
+bits_place bits (column.Fixed text) = None
+bits_place bits (column.Bits place own) = if own == bits then Some place else None
 
 -- the text that a column has in every row
 abbrev pub column_fixed : Column → Option (List ℕ)
 column_fixed (column.At place) = None
 column_fixed (column.Fixed text) = Some text.items
+column_fixed (column.Bits place bits) = None
 
 -- how many columns a row needs to have this one
 abbrev pub columns_needed : Column → ℕ
 columns_needed (column.At place) = place + 1
 columns_needed (column.Fixed text) = 0
+columns_needed (column.Bits place bits) = place + 1
 
--- a column stands at its number, or where the first row has its name, or is the text that the mapping fixes
+-- a column is at its number, or where the first row has its name, or is the text that the mapping fixes; so does one of which
+-- some bits are read
 abbrev pub IsPlaced : Source → (names : Record) → Column → Type 0
 IsPlaced (source.Place place) names placed = column_place placed ≡ Some place
 IsPlaced (source.Named name) names placed = option_and_then (field_at names) (column_place placed) ≡ Some name.items
 IsPlaced (source.Fixed text) names placed = column_fixed placed ≡ Some text.items
+IsPlaced (source.PlaceBits place bits) names placed = bits_place bits placed ≡ Some place
+IsPlaced (source.NamedBits name bits) names placed = option_and_then (field_at names) (bits_place bits placed) ≡ Some name.items
 
 -- each column of a mapping is placed
 pub record ArePlaced (mapping : Mapping) (names : Record) (columns : Columns) : Type 0 where

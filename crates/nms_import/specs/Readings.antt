@@ -1,6 +1,7 @@
 -- What is read of a mapping's document. This product's own rule.
 use Rattle.std.specs.Prelude.{◌≡◌, ◌≢◌, ℕ, ◌<◌, ◌≤◌, codes, Bool, true, false, List, [], length, nat_le, nat_lt}
 use Rattle.std.specs.Prelude.{Option, Some, None, option_and_then, unwrap_or, if◌then◌else◌}
+use Rattle.std.specs.Option.{option_map_or}
 use Rattle.std.specs.Str.{bytes_eq}
 use Rattle.nms_units.specs.declared.TheConstants.{MOST_LOT}
 use Rattle.nms_import.specs.declared.keys.Kind.TheVariants as kind
@@ -13,6 +14,8 @@ use Rattle.nms_import.specs.declared.meanings.PriceUnit.{PriceUnit}
 use Rattle.nms_import.specs.declared.meanings.PriceUnit.TheVariants as unit
 use Rattle.nms_import.specs.declared.meanings.TimeForm.{TimeForm}
 use Rattle.nms_import.specs.declared.meanings.TimeForm.TheVariants as form
+use Rattle.nms_import.specs.declared.meanings.Zone.{Zone}
+use Rattle.nms_import.specs.declared.meanings.Zone.TheVariants as zone
 use Rattle.nms_import.specs.Drafts.{Doc, text_at}
 use Rattle.nms_import.specs.Findings.{faults_of}
 use Rattle.nms_import.specs.Forms.{is_delimiter, zone_in}
@@ -34,7 +37,10 @@ form_named text =
     if bytes_eq text (codes "HHMMSSn") then Some form.Clock
     else (if bytes_eq text (codes "seconds") then Some form.Seconds
     else (if bytes_eq text (codes "unix_ns") then Some form.UnixNanoseconds
-    else (if bytes_eq text (codes "iso") then Some form.Iso else None)))
+    else (if bytes_eq text (codes "iso") then Some form.Iso
+    else (if bytes_eq text (codes "HH:MM:SS") then Some form.Colons
+    else (if bytes_eq text (codes "unix_us") then Some form.UnixMicroseconds
+    else (if bytes_eq text (codes "unix_ms") then Some form.UnixMilliseconds else None))))))
 
 -- the form of times
 abbrev pub form_in : Doc → TimeForm
@@ -44,12 +50,26 @@ form_in draft = unwrap_or (option_and_then form_named (text_at draft (codes "tim
 abbrev pub seconds_in : Doc → ℕ
 seconds_in draft = unwrap_or (option_and_then zone_in (text_at draft (codes "time") (codes "zone_offset"))) 0
 
+-- how times are moved: to the clock of the zone that is named, else by the offset
+abbrev pub is_new_york : List ℕ → Bool
+is_new_york text = bytes_eq text (codes "America/New_York")
+
+abbrev pub zone_of : Doc → Zone
+zone_of draft =
+    if option_map_or is_new_york (text_at draft (codes "time") (codes "zone")) false then zone.NewYork
+    else zone.Moved (seconds_in draft)
+
+-- by less than a day
+abbrev pub is_in_a_day : Zone → Bool
+is_in_a_day (zone.Moved seconds) = nat_lt seconds 86400
+is_in_a_day zone.NewYork = true
+
 -- what mappings of quotes and of trades both say: a zone is less than a day, and there are no words of quotes alone
 pub record AreReadOf (draft : Doc) (common : Meanings) : Type 0 where
   pub unit : common.price_unit ≡ unit_in draft
   pub form : common.time_form ≡ form_in draft
-  pub zone : common.zone ≡ seconds_in draft
-  pub day : common.zone < 86400
+  pub zone : common.zone ≡ zone_of draft
+  pub day : is_in_a_day common.zone ≡ true
   pub size_unit : common.size_unit ≡ 1
   pub no_price : common.no_price.items ≡ []
   pub said : common.said.items ≡ []
@@ -58,8 +78,8 @@ pub record AreReadOf (draft : Doc) (common : Meanings) : Type 0 where
 pub record AreMeaningsOf (draft : Doc) (meanings : Meanings) : Type 0 where
   pub unit : meanings.price_unit ≡ unit_in draft
   pub form : meanings.time_form ≡ form_in draft
-  pub zone : meanings.zone ≡ seconds_in draft
-  pub day : meanings.zone < 86400
+  pub zone : meanings.zone ≡ zone_of draft
+  pub day : is_in_a_day meanings.zone ≡ true
   pub some_shares : 0 < meanings.size_unit
   pub few_shares : meanings.size_unit ≤ MOST_LOT
 
@@ -75,9 +95,13 @@ abbrev pub is_nothing : Source → Bool
 is_nothing (source.Place place) = false
 is_nothing (source.Named name) = false
 is_nothing (source.Fixed text) = nat_le (length text.items) 0
+is_nothing (source.PlaceBits place bits) = false
+is_nothing (source.NamedBits name bits) = false
 
 -- a column that has a number is one of the first 1,000
 abbrev pub is_within : Source → Bool
 is_within (source.Place place) = nat_lt place 1000
 is_within (source.Named name) = true
 is_within (source.Fixed text) = true
+is_within (source.PlaceBits place bits) = nat_lt place 1000
+is_within (source.NamedBits name bits) = true

@@ -32,7 +32,7 @@ is_of_text (fault.Refused finding) = false
 is_of_text (fault.NoColumn key expected) = false
 is_of_text fault.NoMemory = false
 
--- the file's first row lacks a name, or memory ran out
+-- the file's first row lacks a name, or out of memory
 abbrev pub is_of_first_row : MapFault → Bool
 is_of_first_row (fault.NotToml line) = false
 is_of_first_row (fault.Refused finding) = false

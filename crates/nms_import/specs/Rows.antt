@@ -23,7 +23,7 @@ abbrev pub AreAllRows : Config → Option (List ℕ) → List Record → Type 0
 AreAllRows config None rows = Unit {0}
 AreAllRows config (Some bytes) rows = AreRecords config state.StartRecord (strip_bom bytes) rows
 
--- after these rows the reader stands where the text goes on
+-- after these rows the reader is at the rest of the text
 abbrev pub StandsAfter : {R : Type 0} → Config → (R → Option (List ℕ)) → Reader R → Option (List ℕ) → List Record → Type 0
 StandsAfter config remaining reader None rows = Unit {0}
 StandsAfter config remaining reader (Some bytes) rows =

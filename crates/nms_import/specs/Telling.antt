@@ -1,7 +1,11 @@
 -- What is shown of the rows that make no change. This product's own rule.
-use Rattle.std.specs.Prelude.{ℕ, ◌-◌, List}
+use Rattle.std.specs.Prelude.{ℕ, ◌-◌, List, if◌then◌else◌}
+use Rattle.nms_show.specs.Endings.{is_json}
 use Rattle.nms_import.specs.declared.cause.Cause.{Cause}
 use Rattle.nms_import.specs.declared.cause.Cause.TheVariants as cause
+use Rattle.nms_import.specs.declared.TheConstants.{MOST_TOLD}
+use Rattle.nms_import.specs.declared.tally.TheConstants.{MOST_ROWS}
+use Rattle.nms_import.specs.declared.telling.Telling.{Telling}
 use Rattle.nms_import.specs.declared.telling.Told.{Told}
 
 -- the file whose rows are shown
@@ -11,6 +15,10 @@ file_of told = told.file.now
 -- how many rows more are shown
 abbrev pub left_of : {E : Type 0} → Told E → ℕ
 left_of told = told.left
+
+-- how many are shown: as JSON any number that an import has, else the first 100
+abbrev pub most_of : Telling → ℕ
+most_of telling = if is_json telling.form then MOST_ROWS else MOST_TOLD
 
 -- how many are left after a row; the last line of a file is not shown
 abbrev pub left_after : Cause → ℕ → ℕ

@@ -1,11 +1,14 @@
 -- The time of day that a text of a vendor's file says, as 15 digits HHMMSSnnnnnnnnn. This product's own rule.
-use Rattle.std.specs.Prelude.{ℕ, ◌+◌, ◌*◌, ◌-◌, ◌/◌, ◌%◌, ◌^◌, ◌==◌, ◌&&◌, ◌||◌, Bool, List, length, take, drop, get_or}
-use Rattle.std.specs.Prelude.{nat_le, nat_lt, Option, Some, None, option_map, if◌then◌else◌}
+use Rattle.std.specs.Prelude.{ℕ, ◌+◌, ◌*◌, ◌-◌, ◌/◌, ◌%◌, ◌^◌, ◌==◌, ◌&&◌, ◌||◌, Bool, false, List, length, take, drop, get_or}
+use Rattle.std.specs.Prelude.{[], ◌∷◌, nat_eq, nat_le, nat_lt, not, Option, Some, None, option_and_then, option_map, if◌then◌else◌}
 use Rattle.nms_units.specs.Digits.{by_point, number_in}
 use Rattle.nms_units.specs.Price.{both}
 use Rattle.nms_lines.specs.Sides.{is_empty}
 use Rattle.nms_import.specs.declared.meanings.TimeForm.{TimeForm}
 use Rattle.nms_import.specs.declared.meanings.TimeForm.TheVariants as form
+use Rattle.nms_import.specs.declared.meanings.Zone.{Zone}
+use Rattle.nms_import.specs.declared.meanings.Zone.TheVariants as zone
+use Rattle.nms_import.specs.Forms.{zone_in}
 
 -- the number, if it passes
 abbrev pub only_if : (ℕ → Bool) → Option ℕ → Option ℕ
@@ -59,27 +62,22 @@ is_in_day nanos = nat_lt nanos 86400000000000
 abbrev pub seconds_number : List ℕ → Option ℕ
 seconds_number text = only_if is_in_day (by_point seconds_and_fraction text (whole_seconds text))
 
--- "iso": ten bytes of a date, which is not read; T or a blank; HH:MM:SS; at most a point with one to nine digits; at most a Z
-abbrev pub has_marks : List ℕ → Bool
-has_marks text =
-    nat_le 19 (length text) && (get_or text 10 0 == 84 || get_or text 10 0 == 32) && get_or text 13 0 == 58 && get_or text 16 0 == 58
+-- "HH:MM:SS": at most a point with one to nine digits after it
+abbrev pub has_colons : List ℕ → Bool
+has_colons text = nat_le 8 (length text) && get_or text 2 0 == 58 && get_or text 5 0 == 58
 
 abbrev pub two_at : ℕ → List ℕ → Option ℕ
 two_at place text = number_in 2 (take 2 (drop place text))
 
 -- hours, minutes and seconds as nanoseconds
 abbrev pub hours_at : List ℕ → Option ℕ
-hours_at text = option_map (λ n. n * 3600000000000) (only_if (λ n. nat_lt n 24) (two_at 11 text))
+hours_at text = option_map (λ n. n * 3600000000000) (only_if (λ n. nat_lt n 24) (two_at 0 text))
 
 abbrev pub minutes_at : List ℕ → Option ℕ
-minutes_at text = option_map (λ n. n * 60000000000) (only_if (λ n. nat_lt n 60) (two_at 14 text))
+minutes_at text = option_map (λ n. n * 60000000000) (only_if (λ n. nat_lt n 60) (two_at 3 text))
 
 abbrev pub seconds_at : List ℕ → Option ℕ
-seconds_at text = option_map (λ n. n * 1000000000) (only_if (λ n. nat_lt n 60) (two_at 17 text))
-
-abbrev pub without_z : List ℕ → List ℕ
-without_z text =
-    if nat_lt 0 (length text) && get_or text (length text - 1) 0 == 90 then take (length text - 1) text else text
+seconds_at text = option_map (λ n. n * 1000000000) (only_if (λ n. nat_lt n 60) (two_at 6 text))
 
 abbrev pub point_and_fraction : List ℕ → Option ℕ
 point_and_fraction text = if is_empty text then Some 0 else (if get_or text 0 0 == 46 then fraction (drop 1 text) else None)
@@ -87,17 +85,146 @@ point_and_fraction text = if is_empty text then Some 0 else (if get_or text 0 0 
 abbrev pub second_at : List ℕ → Option ℕ
 second_at text = both (both (hours_at text) (minutes_at text)) (seconds_at text)
 
-abbrev pub after_seconds : List ℕ → Option ℕ
-after_seconds text = point_and_fraction (without_z (drop 19 text))
+abbrev pub colons_number : List ℕ → Option ℕ
+colons_number text = if has_colons text then both (second_at text) (point_and_fraction (drop 8 text)) else None
+
+-- "iso": ten bytes of a date, which is not read; T or a blank; a time with colons; at most a Z, or an offset from UTC as +HH:MM or
+-- +HHMM
+abbrev pub has_date : List ℕ → Bool
+has_date text = nat_le 11 (length text) && (get_or text 10 0 == 84 || get_or text 10 0 == 32)
+
+-- whether a byte is the first of the last ones
+abbrev pub is_from_end : (bytes c : ℕ) → List ℕ → Bool
+is_from_end bytes c text = nat_le bytes (length text) && get_or text (length text - bytes) 0 == c
+
+-- a plus or a minus
+abbrev pub has_sign : (bytes : ℕ) → List ℕ → Bool
+has_sign bytes text = is_from_end bytes 43 text || is_from_end bytes 45 text
+
+-- how many bytes at the end say the zone
+abbrev pub zone_length : List ℕ → ℕ
+zone_length text = if is_from_end 1 90 text then 1 else (if has_sign 6 text then 6 else (if has_sign 5 text then 5 else 0))
+
+-- an offset without the colon in it
+abbrev pub without_colon : List ℕ → List ℕ
+without_colon text =
+    if nat_eq (length text) 6 && get_or text 3 0 == 58
+    then get_or text 0 0 ∷ get_or text 1 0 ∷ get_or text 2 0 ∷ get_or text 4 0 ∷ get_or text 5 0 ∷ [] else text
+
+-- the nanoseconds from a local time on to UTC, over midnight
+abbrev pub to_utc : List ℕ → Option ℕ
+to_utc zone =
+    if nat_le (length zone) 1 then Some 0 else option_map (λ seconds. (86400 - seconds) * 1000000000) (zone_in (without_colon zone))
+
+-- in UTC, where a time without a zone is taken to be
+abbrev pub utc_number : List ℕ → Option ℕ
+utc_number text =
+    both (colons_number (take (length text - zone_length text) text)) (to_utc (drop (length text - zone_length text) text))
 
 abbrev pub iso_number : List ℕ → Option ℕ
-iso_number text = if has_marks text then both (second_at text) (after_seconds text) else None
+iso_number text = if has_date text then utc_number (drop 11 text) else None
+
+-- ---- New York: summer time is from 2:00 of the second Sunday in March to 2:00 of the first in November (15 U.S.C. 260a), since 2007
+
+-- how many days after a 1 March a day is, which is counted from that of 1968: four years from there have 1,461 days, the last of
+-- them 29 February
+abbrev pub since_march : (day : ℕ) → ℕ
+since_march day = day - (4 * day + 3) / 1461 * 1461 / 4
+
+-- whether the last Sunday, or this one, is at least this number of days after a 1 March; 1 March 1968 was a Friday
+abbrev pub is_past : (days day : ℕ) → Bool
+is_past days day = nat_le (days + (day + 5) % 7) (since_march day)
+
+-- from the second Sunday in March on, and before the first in November: 7 to 13, and 245 to 251 days after 1 March
+abbrev pub is_between_on : (day : ℕ) → Bool
+is_between_on day = is_past 7 day && not (is_past 245 day)
+
+-- the same at a second since 1970, which began 671 days later
+abbrev pub is_between : (second : ℕ) → Bool
+is_between second = is_between_on (second / 86400 + 671)
+
+-- with days that begin at 2:00 of the winter, and with days that begin at 2:00 of the summer
+abbrev pub is_summer : (second : ℕ) → Bool
+is_summer second = is_between (second - 25200) && is_between (second - 21600)
+
+-- the time of day, of the years 2007 to 2099
+abbrev pub new_york_at : (second nanos : ℕ) → Option ℕ
+new_york_at second nanos =
+    if nat_lt second 1167609600 || nat_le 4102444800 second then None
+    else Some (clock_at (if is_summer second then 72000 else 68400) nanos)
+
+abbrev pub in_new_york : (nanos : ℕ) → Option ℕ
+in_new_york nanos = new_york_at (nanos / 1000000000) nanos
+
+-- the time of day of nanoseconds since 1970, or after a midnight, in a zone
+abbrev pub zoned : Zone → (nanos : ℕ) → Option ℕ
+zoned (zone.Moved seconds) nanos = Some (clock_at seconds nanos)
+zoned zone.NewYork nanos = in_new_york nanos
+
+-- ---- "iso" in such a zone: its date is read, as YYYY-MM-DD
+
+-- the days from 1 March 1968 to a date
+abbrev pub days_of : (year month day : ℕ) → ℕ
+days_of year month day = (year * 12 + month - 23619) / 12 * 1461 / 4 + (153 * ((month + 9) % 12) + 2) / 5 + day - 1
+
+-- a number of at most this number of digits, if it is within two others
+abbrev pub number_within : (digits least most : ℕ) → List ℕ → Option ℕ
+number_within digits least most text = only_if (λ n. nat_le least n && nat_le n most) (number_in digits text)
+
+-- the midnight of UTC that begins a date, in nanoseconds since 1970
+abbrev pub midnight_of : Option ℕ → Option ℕ → Option ℕ → Option ℕ
+midnight_of (Some year) (Some month) (Some day) = Some ((days_of year month day - 671) * 86400000000000)
+midnight_of _ _ _ = None
+
+abbrev pub midnight_number : List ℕ → Option ℕ
+midnight_number text =
+    if get_or text 4 0 == 45 && get_or text 7 0 == 45
+    then midnight_of (number_within 4 2007 2099 (take 4 text)) (number_within 2 1 12 (take 2 (drop 5 text)))
+    (number_within 2 1 31 (take 2 (drop 8 text)))
+    else None
+
+-- an offset that is behind UTC; any other is taken to UTC over midnight, so that a day is to be taken off
+abbrev pub is_part_of_day : Option ℕ → Bool
+is_part_of_day None = false
+is_part_of_day (Some nanos) = nat_lt nanos 86400000000000
+
+abbrev pub is_behind : List ℕ → Bool
+is_behind zone = get_or zone 0 0 == 45 && is_part_of_day (to_utc zone)
+
+abbrev pub over_by : (zone : List ℕ) → ℕ
+over_by zone = if nat_le (length zone) 1 || is_behind zone then 0 else 86400000000000
+
+abbrev pub over_midnight : List ℕ → ℕ
+over_midnight text = over_by (drop (length text - zone_length text) text)
+
+-- nanoseconds since 1970
+abbrev pub instant_from : (midnight : Option ℕ) → List ℕ → Option ℕ
+instant_from midnight text = option_map (λ nanos. nanos - over_midnight text) (both midnight (utc_number text))
+
+abbrev pub instant_number : List ℕ → Option ℕ
+instant_number text = if has_date text then instant_from (midnight_number text) (drop 11 text) else None
+
+-- a date and a time in a zone
+abbrev pub iso_zoned : Zone → List ℕ → Option ℕ
+iso_zoned (zone.Moved seconds) text = option_map (clock_at seconds) (iso_number text)
+iso_zoned zone.NewYork text = option_and_then in_new_york (instant_number text)
 
 -- ---- all forms
 
+-- "unix_us" is one to 16 digits: microseconds since 1970
+abbrev pub microseconds : List ℕ → Option ℕ
+microseconds text = option_map (λ n. n * 1000) (number_in 16 text)
+
+-- "unix_ms" is one to 13 digits: milliseconds since 1970
+abbrev pub milliseconds : List ℕ → Option ℕ
+milliseconds text = option_map (λ n. n * 1000000) (number_in 13 text)
+
 -- "unix_ns" is one to 19 digits: nanoseconds since 1970
-abbrev pub clock_of : TimeForm → (zone : ℕ) → List ℕ → Option ℕ
+abbrev pub clock_of : TimeForm → Zone → List ℕ → Option ℕ
 clock_of form.Clock zone text = only_if is_clock (clock_number text)
-clock_of form.Seconds zone text = option_map (clock_at zone) (seconds_number text)
-clock_of form.UnixNanoseconds zone text = option_map (clock_at zone) (number_in 19 text)
-clock_of form.Iso zone text = option_map (clock_at zone) (iso_number text)
+clock_of form.Seconds zone text = option_and_then (zoned zone) (seconds_number text)
+clock_of form.UnixNanoseconds zone text = option_and_then (zoned zone) (number_in 19 text)
+clock_of form.UnixMicroseconds zone text = option_and_then (zoned zone) (microseconds text)
+clock_of form.UnixMilliseconds zone text = option_and_then (zoned zone) (milliseconds text)
+clock_of form.Colons zone text = option_and_then (zoned zone) (colons_number text)
+clock_of form.Iso zone text = iso_zoned zone text

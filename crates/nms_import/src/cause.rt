@@ -17,7 +17,7 @@ pub enum Cause {
     UnknownSymbol,
     /// The mapping lists no such condition.
     UnknownCondition,
-    /// The condition makes this side alone manual, which no record can say, and the mapping refuses such rows.
+    /// The condition makes only this side manual. No record can say that, and the mapping refuses such rows.
     OneSided(Side),
     /// The price of a side is not of the mapping's unit, or above 9,999,999.9999 dollars.
     BadPrice(Side),
@@ -25,16 +25,16 @@ pub enum Cause {
     BadSize(Side),
     /// A side has shares and no price.
     HalfSide(Side),
-    /// The mapping's last line of the file, as `END|20240102|..`.
+    /// The row is the last line of the file, as the mapping says: `END|20240102|..`.
     Trailer,
-    /// The mapping lists its word among those to skip.
+    /// The mapping lists the row's word among those to skip.
     Listed,
     /// The symbol is not on the roster, and the mapping skips such rows.
     OtherSymbol,
 }
 
 impl Cause {
-    /// Whether the row is skipped, and not refused.
+    /// Whether the row is skipped instead of refused.
     pub fn skips(self) -> bool
         ensures { result ≡ is_skipped self }
     {

@@ -1,19 +1,22 @@
 //! The columns of a file: `specs/Mapping`.
 ghost use Rattle.std.specs.Prelude.{◌≡◌};
 ghost use Rattle.csv.specs.Records.{fields_of};
-ghost use Rattle.nms_import.specs.Mapping.{column_text};
+ghost use Rattle.nms_import.specs.Mapping.{bits_text, column_text};
 
 use csv::ByteRecord;
 use nms_lines::field_at;
+use nms_units::parse_digits;
 use std::alloc::Global;
 
-/// Where a text of a row comes from.
+/// The source of a text of a row.
 #[derive(Drop)]
 pub enum Column {
-    /// The field at a place, from 0.
+    /// The field at a place, counted from 0.
     At(usize),
     /// The same text in every row.
     Fixed(Vec<u8>),
+    /// Whether the number at a place, from 0, has any of some bits: `1` or `0`.
+    Bits(usize, u16),
 }
 
 /// The columns that a mapping reads, in one file.
@@ -22,9 +25,9 @@ pub struct Columns {
     pub width: usize,
     /// The time of day.
     pub time: Column,
-    /// Who quotes.
+    /// The participant that quotes.
     pub participant: Column,
-    /// What is quoted.
+    /// The symbol that is quoted.
     pub symbol: Column,
     /// The price of the bid.
     pub bid: Column,
@@ -42,7 +45,7 @@ pub struct Columns {
     pub skip: Column,
 }
 
-/// A `Drop` of its own: a function that holds one then has one call at each exit, and not one for each part (docs/GATE.md).
+/// It has its own `Drop`, so that a function that holds one has one call at each exit, and not one for each part (docs/GATE.md).
 impl Drop for Columns {
     fn drop(self) {
         let Columns {
@@ -62,7 +65,7 @@ impl Drop for Columns {
 }
 
 impl Columns {
-    /// No column: the empty text in each of them.
+    /// Columns that are the empty text.
     pub(crate) fn none(alloc: Global) -> Columns
         ensures { result.width ≡ 0 }
     {
@@ -83,13 +86,25 @@ impl Columns {
 }
 
 impl Column {
-    /// The text of the column in a row, empty past the row's last field.
+    /// The text of the column in a row. It is empty if the row has no such field.
     pub fn text<'a>(&'a self, row: &'a ByteRecord) -> &'a [u8]
         ensures { result.now ≡ column_text self.now (fields_of row.now) }
     {
         match self {
             Column::At(place) => field_at(row, *place),
             Column::Fixed(text) => text.as_slice(),
+            Column::Bits(place, bits) => bits_text(field_at(row, *place), *bits),
         }
+    }
+}
+
+/// `1` if a number of at most nine digits has any of some bits, and `0` if it has none; another text as it is.
+fn bits_text(text: &[u8], bits: u16) -> &[u8]
+    ensures { result.now ≡ bits_text bits text.now }
+{
+    match parse_digits(text, 9) {
+        Some(number) if number & u64::from(bits) == 0 => b"0",
+        Some(_) => b"1",
+        None => text,
     }
 }

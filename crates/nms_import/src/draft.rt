@@ -7,7 +7,7 @@ ghost use Rattle.nms_import.specs.Drafts.{items_in, name_of, table_in, written_a
 use crate::keys::{KEYS, Kind, Row};
 use toml::{Table, Value};
 
-/// A name in a document that is taken for a key's own, as that key is absent.
+/// A name in a document that is taken for a key, because that key is absent.
 #[derive(Clone, Copy)]
 pub struct Meant<'a> {
     /// The key's table, empty for the top.
@@ -25,7 +25,7 @@ pub struct Draft<'a> {
     pub keys: &'static [Row],
     /// What the mapping is for.
     pub kind: Kind,
-    /// The document.
+    /// The document that was read.
     pub document: &'a Table,
     /// The names that are taken for keys.
     pub meant: &'a [Meant<'a>],
@@ -36,7 +36,7 @@ impl<'a> Draft<'a> {
     ghost use Rattle.toml.specs.View.{table_view, view};
     ghost use Rattle.nms_import.specs.Drafts.{doc_of, is_flagged, items_at, members_at, plain, text_at, value_at};
 
-    /// A document, of which each name is taken as it is.
+    /// A document of which each name is taken as it is.
     #[tactic(auto, unfolding(crate::specs::Keys::all_keys))]
     pub fn new(kind: Kind, document: &'a Table) -> Draft<'a>
         ensures { doc_of result ≡ plain kind (table_view document.now) }
@@ -89,7 +89,7 @@ impl<'a> Draft<'a> {
         }
     }
 
-    /// The elements of the array at a key, none if there is no array.
+    /// The elements of the array at a key; none if there is no array.
     pub fn items(self, table: &str, key: &str) -> &'a [Value]
         ensures { map view result.now ≡ items_at (doc_of self.entry) table.now key.now }
     {
@@ -103,7 +103,7 @@ impl<'a> Draft<'a> {
     }
 }
 
-/// The name that stands for a key in a document.
+/// The name that a document has for a key.
 pub fn written_as<'a>(meant: &[Meant<'a>], table: &str, key: &'a str) -> &'a str
     ensures { result.now ≡ written_as (map name_of meant.now) table.now key.now }
 {

@@ -2,14 +2,14 @@
 ghost use Rattle.std.specs.Prelude.{codes, ◌≡◌, ◌++◌, ◌∷◌, [], map, option_map, IfErr, IfOk, OnOk};
 ghost use Rattle.std.specs.List.{list_any};
 ghost use Rattle.toml.specs.View.{table_view, view};
-ghost use Rattle.nms_import.specs.Findings.{Adds, IsFirst, absent_expected, absent_faults, fault, fault_of, faults_of, form_expected, is_earlier, column_wrong, is_text, is_wrong, key_faults, keys_faults, list_in, name_expected, names_faults, refused_at, table_faults, tables_faults, text_expected, unknown_faults, unknown_in, value_expected, value_faults, word_expected, words_faults};
+ghost use Rattle.nms_import.specs.Findings.{Adds, IsFirst, absent_expected, absent_faults, fault, fault_of, faults_of, form_expected, is_earlier, is_replaced, column_wrong, is_text, is_wrong, key_faults, keys_faults, list_in, name_expected, names_faults, refused_at, table_faults, tables_faults, text_expected, unknown_faults, unknown_in, value_expected, value_faults, word_expected, words_faults};
 ghost use Rattle.nms_import.specs.Drafts.{doc_of, members_at, names_in};
 ghost use Rattle.nms_import.specs.Keys.{see};
 
 use crate::draft::{Draft, items_in, value_in};
 use crate::keys::{A_LIST, Form, IN_NO_OTHER, ONE_OR_TWO, Row, SAME, is_key, is_of};
 use crate::map_fault::{Finding, MapFault, Wrong};
-use crate::right::{column_expected, is_right};
+use crate::right::{column_expected, has_named, is_right};
 use std::alloc::{AllocError, Global};
 use toml::{Table, Value};
 
@@ -31,7 +31,7 @@ pub fn check(alloc: Global, draft: Draft<'_>) -> Result<(), MapFault<'_>>
     }
 }
 
-/// Every fault of a document, table by table, and of a table in the order of its keys; first those of keys that are not known.
+/// Every fault of a document, table by table, and within a table in the order of its keys. Those of unknown keys come first.
 pub fn find_faults<'a>(alloc: Global, draft: Draft<'a>) -> Result<Vec<Finding<'a>>, AllocError>
     ensures { IfOk result (λ found. map fault_of found.items ≡ faults_of (doc_of draft.entry)) }
 {
@@ -62,7 +62,7 @@ fn note<'a>(
     Ok(())
 }
 
-/// Notes a value, or a word of a list, that is not what is expected, if something is.
+/// Notes a value, or a word of a list, that is not what is expected.
 fn note_refused<'a>(
     found: &mut Found<'a>,
     table: &'static str,
@@ -154,15 +154,22 @@ fn note_key<'a>(found: &mut Found<'a>, draft: Draft<'a>, row: &Row) -> Noted
     }
 }
 
-/// Notes a key that is needed, and absent.
+/// Notes a key that is needed, and absent, as is any in its place.
 fn note_absent<'a>(found: &mut Found<'a>, draft: Draft<'a>, row: &Row) -> Noted
     ensures { OnOk result (Adds found.old.items found.new.items (absent_faults (doc_of draft.entry) (see row.now))) }
 {
-    if !row.3.1 {
+    if !row.3.1 || is_replaced(draft, row) {
         return Ok(());
     }
     let expected = absent_expected(draft, row);
     note(found, row.0, row.1, None, Wrong::Missing, expected)
+}
+
+/// Whether another key is in place of a column's.
+fn is_replaced(draft: Draft<'_>, row: &Row) -> bool
+    ensures { result ≡ is_replaced (doc_of draft.entry) (see row.now) }
+{
+    row.3.0.is_column() && has_named(draft, row)
 }
 
 /// What is expected of a key that is needed.
@@ -176,7 +183,7 @@ fn absent_expected(draft: Draft<'_>, row: &Row) -> &'static str
     }
 }
 
-/// Notes the names of participants that are none.
+/// Notes names that are no participants.
 fn note_names<'a>(found: &mut Found<'a>, row: &Row, members: &'a Table) -> Noted
     ensures { OnOk result (Adds found.old.items found.new.items (names_faults (see row.now) (table_view members.now) (names_in (table_view members.now)))) }
 {
@@ -188,7 +195,7 @@ fn note_names<'a>(found: &mut Found<'a>, row: &Row, members: &'a Table) -> Noted
     Ok(())
 }
 
-/// What is expected in the place of a value that is no name of a participant.
+/// What is expected instead of a value that is no name of a participant.
 fn name_expected(row: &Row, key: &str, value: Option<&Value>) -> Option<&'static str>
     ensures { option_map (λ it. it.now) result ≡ name_expected (see row.now) key.now (option_map (λ it. view it.now) value.entry) }
 {
@@ -212,7 +219,7 @@ fn note_value<'a>(found: &mut Found<'a>, draft: Draft<'a>, row: &Row, value: &Va
     }
 }
 
-/// The words of a list, if a list can be there and the value is one.
+/// The words of a list, if a list is allowed there and the value is one.
 fn list_in(form: Form, value: &Value) -> Option<&[Value]>
     ensures { option_map (λ words. map view words.now) result ≡ list_in form (view value.now) }
 {
@@ -223,7 +230,7 @@ fn list_in(form: Form, value: &Value) -> Option<&[Value]>
     }
 }
 
-/// What is expected in the place of a value that is not right, and no list.
+/// What is expected instead of a value that is wrong and no list.
 fn value_expected(draft: Draft<'_>, row: &Row, value: &Value) -> Option<&'static str>
     ensures { option_map (λ it. it.now) result ≡ value_expected (doc_of draft.entry) (see row.now) (view value.now) }
 {
@@ -261,7 +268,7 @@ fn note_words<'a>(found: &mut Found<'a>, draft: Draft<'a>, row: &Row, words: &[V
     Ok(())
 }
 
-/// What is expected in the place of a word of a list, if it is wrong.
+/// What is expected instead of a word of a list, if the word is wrong.
 fn word_expected(
     draft: Draft<'_>,
     row: &Row,
@@ -280,7 +287,7 @@ fn word_expected(
     }
 }
 
-/// What is expected in the place of one of two columns, if it is none.
+/// What is expected instead of one of two columns, if it is no column.
 fn column_wrong(draft: Draft<'_>, row: &Row, word: &Value) -> Option<&'static str>
     ensures { option_map (λ it. it.now) result ≡ column_wrong (doc_of draft.entry) (see row.now) (view word.now) }
 {
@@ -291,7 +298,7 @@ fn column_wrong(draft: Draft<'_>, row: &Row, word: &Value) -> Option<&'static st
     }
 }
 
-/// What is expected in the place of a text of a list, if it is wrong.
+/// What is expected instead of a text of a list, if the text is wrong.
 fn text_expected(
     draft: Draft<'_>,
     row: &Row,
@@ -326,9 +333,11 @@ fn is_wrong(draft: Draft<'_>, row: &Row, before: &[Value], text: &str, after: &[
         | Form::Count
         | Form::Column
         | Form::Columns
+        | Form::Instead
         | Form::SizeUnit
         | Form::Lot
         | Form::Zone
+        | Form::ZoneName
         | Form::Name
         | Form::Words => false,
     }

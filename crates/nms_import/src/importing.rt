@@ -35,7 +35,7 @@ use std::io::{Read, Write};
 /// Room that is kept from row to row.
 #[derive(Drop)]
 pub struct Work {
-    /// The row at hand.
+    /// The present row.
     pub row: ByteRecord,
     scratch: Vec<u8>,
     text: Vec<u8>,
@@ -45,7 +45,7 @@ impl Work {
     ghost use Rattle.std.specs.Prelude.{◌≡◌, []};
     ghost use Rattle.csv.specs.Records.{fields_of};
 
-    /// Room for a row. It takes no memory before the first.
+    /// Room for a row. It takes no memory before the first row.
     pub fn new(alloc: Global) -> Work
         ensures { fields_of result.row ≡ [] }
     {
@@ -57,12 +57,12 @@ impl Work {
     }
 }
 
-/// Imports the rows that a reader still has: writes the changes that they give and their times, in order, and counts every
-/// outcome. The counts go on from those of earlier files. With `numbers` each time has the number of its row, from 1 in the
-/// first file.
+/// Imports the rows that a reader still has. It writes the changes that they give and their times, in order, and counts every
+/// outcome. The counts go on from those of earlier files. If `numbers` is set, each time has the number of its row, from 1 in
+/// the first file.
 ///
-/// A row that makes no change of its own may give one: a refused row withdraws what its participant showed of its symbol,
-/// unless the mapping keeps it.
+/// A row that makes no change may still give one: a refused row withdraws what its participant showed of its symbol, unless the
+/// mapping keeps it.
 ///
 /// After an error a prefix of both texts was written. The writers are not flushed.
 pub fn import_rows<R: Read, C: Write, T: Write, E: Write>(
@@ -113,7 +113,7 @@ pub fn import_rows<R: Read, C: Write, T: Write, E: Write>(
     Err(ImportFault::TooLong)
 }
 
-/// Imports the row at hand, which has this number.
+/// Imports the present row, which has this number.
 fn import_row<C: Write, T: Write, E: Write>(
     columns: &Columns,
     meanings: &Meanings,
@@ -161,7 +161,7 @@ fn import_row<C: Write, T: Write, E: Write>(
     }
 }
 
-/// Notes the last line of a file, which is the row of this number, by the cause why it makes no change.
+/// Notes the last line of a file, which is the row with this number, if that is the cause why it makes no change.
 pub fn note_cause(cause: Cause, row: &ByteRecord, number: u64, notes: &mut Notes)
     ensures time { notes.new.time ≡ notes.old.time }
     ensures changes { notes.new.changes ≡ notes.old.changes }
@@ -171,7 +171,7 @@ pub fn note_cause(cause: Cause, row: &ByteRecord, number: u64, notes: &mut Notes
     }
 }
 
-/// Gives the change that the row at hand leaves, if it leaves one.
+/// Gives the change that the present row leaves, if it leaves one.
 fn give_left<C: Write, T: Write, E: Write>(
     columns: &Columns,
     meanings: &Meanings,
@@ -210,7 +210,7 @@ fn give_left<C: Write, T: Write, E: Write>(
     }
 }
 
-/// Writes and notes a change that the row at hand gives.
+/// Writes and notes a change that the present row gives.
 fn give_entry<C: Write, T: Write, E: Write>(
     columns: &Columns,
     roster: &Roster,
@@ -240,7 +240,7 @@ fn give_entry<C: Write, T: Write, E: Write>(
     note_entry(columns, roster, entry, &work.row, notes, told)
 }
 
-/// Notes a change, and shows its row if its time is the first that falls.
+/// Notes a change. Its row is shown if its time is the first that is before an earlier one.
 fn note_entry<E: Write>(
     columns: &Columns,
     roster: &Roster,

@@ -1,18 +1,18 @@
-//! The table of the keys of a mapping: `specs/Keys`. What is read, what is refused and the key that was meant come from it, and so
-//! does the table of docs/IMPORT.md.
+//! The table of the keys of a mapping: `specs/Keys`. It decides what is read, what is refused, and which key a wrong name may
+//! mean. The table of docs/IMPORT.md is made from it.
 ghost use Rattle.std.specs.Prelude.{◌≡◌, map};
-ghost use Rattle.nms_import.specs.Keys.{has, is_columns, is_key, is_list, is_name, is_of, is_one_column, is_others, see};
+ghost use Rattle.nms_import.specs.Keys.{has, is_columns, is_instead, is_key, is_list, is_name, is_of, is_one_column, is_others, see};
 
 use std::alloc::{AllocError, Global};
 
 /// What a mapping is for.
 #[derive(Clone, Copy, PartialEq, Eq)]
 pub enum Kind {
-    /// Quotes, for `import`.
+    /// A mapping of quotes, for `import`.
     Quotes,
-    /// Trades, for `import`.
+    /// A mapping of trades, for `import`.
     Trades,
-    /// National bests, for `compare`.
+    /// A mapping of national bests, for `compare`.
     Bests,
 }
 
@@ -29,25 +29,29 @@ pub enum Form {
     Flag,
     /// A text.
     Text,
-    /// The number of a field, beside the key `end`.
+    /// The number of a field, if the key `end` is there too.
     Count,
     /// A column.
     Column,
     /// A column, or an array of two.
     Columns,
-    /// `shares`, or `lots` beside the key `lot`.
+    /// A column in place of one of the keys that the row names, which has to be absent.
+    Instead,
+    /// `shares`, or `lots` next to the key `lot`.
     SizeUnit,
-    /// Shares, or `setup`.
+    /// A number of shares, or `setup`.
     Lot,
-    /// A sign and HHMM, beside times that have a date.
+    /// A sign and HHMM, if times have a date.
     Zone,
-    /// A participant's name; it stands for any key of the table. That of `*` is `same`.
+    /// A zone's name, one of the words of the key, next to times that have a date and no other zone.
+    ZoneName,
+    /// A participant's name; it is in place of any key of the table. That of `*` is `same`.
     Name,
     /// Texts.
     Words,
     /// Pairs of texts of one byte.
     Pairs,
-    /// Texts, each in no other list of the table, and once.
+    /// Texts, each of which is once in the list, and in no other list of the table.
     Conditions,
     /// Texts of one byte.
     Letters,
@@ -56,28 +60,35 @@ pub enum Form {
 }
 
 impl Form {
-    /// Whether names of participants stand there.
+    /// Whether the value is a participant's name.
     pub(crate) fn is_name(self) -> bool
         ensures { result ≡ is_name self }
     {
         matches!(self, Form::Name)
     }
 
-    /// Whether a column or two stand there.
+    /// Whether the value is a column or two.
     pub(crate) fn is_columns(self) -> bool
         ensures { result ≡ is_columns self }
     {
         matches!(self, Form::Columns)
     }
 
-    /// Whether a column stands there.
+    /// Whether the value is a column.
     pub(crate) fn is_column(self) -> bool
         ensures { result ≡ is_one_column self }
     {
         matches!(self, Form::Column)
     }
 
-    /// Whether texts stand there.
+    /// Whether a column is there that is another key's.
+    pub(crate) fn is_instead(self) -> bool
+        ensures { result ≡ is_instead self }
+    {
+        matches!(self, Form::Instead)
+    }
+
+    /// Whether texts are there.
     pub(crate) fn is_list(self) -> bool
         ensures { result ≡ is_list self }
     {
@@ -87,7 +98,7 @@ impl Form {
         )
     }
 
-    /// Whether letters stand there that claim nothing.
+    /// Whether the value is a list of letters that claim nothing.
     pub(crate) fn is_others(self) -> bool
         ensures { result ≡ is_others self }
     {
@@ -98,11 +109,11 @@ impl Form {
 /// Whether mappings of quotes, of trades and of national bests have a key.
 pub type Kinds = (bool, bool, bool);
 
-/// What stands at a key: its form; whether it is needed; the words of a choice, of which an absent key has the first; and what is
-/// expected, empty for a column.
+/// What is at a key: its form; whether it is needed; the words of a choice, of which an absent key has the first, or of a
+/// column the keys that may be in its place, or in whose place it may be; and what is expected, empty for a column.
 pub type Rule = (Form, bool, &'static [&'static str], &'static str);
 
-/// A key: its table, empty for the top; its name; the mappings that have it; and what stands there.
+/// A key: its table, empty for the top; its name; the mappings that have it; and the rule for its value.
 pub type Row = (&'static str, &'static str, Kinds, Rule);
 
 const ALL: Kinds = (true, true, true);
@@ -129,15 +140,22 @@ const WITHDRAW: &str = "\"withdraw\" or \"keep\"";
 
 const A_VENUE: &str = "the column of the venue, as for the other columns";
 
+pub const ASKED: &str = "a column, in place of the key of the offer and not next to it";
+
 const PRICES: &str = "\"dollars\", \"1e-4\" or \"1e-9\"";
 
 const SIZES: &str = "\"shares\", or \"lots\" next to lot = \"setup\" or lot = 100";
 
 const A_LOT: &str = "a whole number from 1 to 1000, or \"setup\": the setup's lot of each symbol";
 
-const FORMS: &str = "\"HHMMSSn\", \"seconds\", \"unix_ns\" or \"iso\"";
+const FORMS: &str =
+    "\"HHMMSSn\", \"HH:MM:SS\", \"seconds\", \"unix_ns\", \"unix_us\", \"unix_ms\" or \"iso\"";
 
-const A_ZONE: &str = "a sign and HHMM, as \"-0500\", beside form = \"unix_ns\" or \"iso\"";
+const A_ZONE: &str =
+    "a sign and HHMM, as \"-0500\", next to form = \"unix_ns\", \"unix_us\", \"unix_ms\" or \"iso\"";
+
+const A_ZONE_NAME: &str =
+    "\"America/New_York\", in place of zone_offset, next to form = \"unix_ns\", \"unix_us\", \"unix_ms\" or \"iso\"";
 
 const ORDERS: &str = "\"given\", \"symbol\" or \"free\"";
 
@@ -155,7 +173,9 @@ const HALVES: &str = "\"refuse\", \"manual\" or \"automated\"";
 
 const LETTER: &str = "an array of texts of one letter, as [\"F\", \"4\"]";
 
-const TIME_FORMS: &[&'static str] = &["HHMMSSn", "seconds", "unix_ns", "iso"];
+const TIME_FORMS: &[&'static str] = &[
+    "HHMMSSn", "HH:MM:SS", "seconds", "unix_ns", "unix_us", "unix_ms", "iso",
+];
 
 const HALF_WORDS: &[&'static str] = &["refuse", "manual", "automated"];
 
@@ -183,6 +203,18 @@ const COLUMNS: Rule = (Form::Columns, false, &[], "");
 
 const VENUE: Rule = (Form::Column, true, &[], A_VENUE);
 
+const OFFER_VENUE: Rule = (Form::Column, true, &["ask_participant"], A_VENUE);
+
+const ASK_VENUE: Rule = (Form::Instead, false, &["offer_participant"], ASKED);
+
+const OFFER: Rule = (Form::Column, true, &["ask"], "");
+
+const ASK: Rule = (Form::Instead, false, &["offer"], ASKED);
+
+const OFFER_SIZE: Rule = (Form::Column, true, &["ask_size"], "");
+
+const ASK_SIZE: Rule = (Form::Instead, false, &["offer_size"], ASKED);
+
 const PRICE_UNIT: Rule = (Form::Choice, false, &["dollars", "1e-4", "1e-9"], PRICES);
 
 const SIZE_UNIT: Rule = (Form::SizeUnit, true, &[], SIZES);
@@ -192,6 +224,8 @@ const LOT: Rule = (Form::Lot, false, &[], A_LOT);
 const TIME_FORM: Rule = (Form::Choice, false, TIME_FORMS, FORMS);
 
 const ZONE: Rule = (Form::Zone, false, &[], A_ZONE);
+
+const ZONE_NAME: Rule = (Form::ZoneName, false, &["America/New_York"], A_ZONE_NAME);
 
 const ORDER: Rule = (Form::Choice, false, &["given", "symbol", "free"], ORDERS);
 
@@ -215,20 +249,21 @@ const OTHERS: Rule = (Form::Others, false, &[], LETTER);
 
 /// What is expected of a list.
 pub const A_LIST: &str = "an array of texts, as [\"R\", \"O\"]";
-/// What is expected of a letter that stands in an earlier list.
+/// What is expected of a letter that is in an earlier list.
 pub const IN_NO_OTHER: &str = "letters that stand in no other list";
 /// What is expected of two columns.
 pub const ONE_OR_TWO: &str = "a column, or an array of two";
 /// What is expected of the word `*`.
 pub const SAME: &str = "\"same\": any other word is its own name";
 /// What is expected of a column in a file whose first line names its columns.
-pub const A_NAME: &str = "the name of a column, its number from 1 to 1000, or { fixed = \"TEXT\" }";
+pub const A_NAME: &str =
+    "the name of a column, its number from 1 to 1000, { fixed = \"TEXT\" } or { column = \"flags\", bits = 128 }";
 /// What is expected of a column in another file.
 pub const A_NUMBER: &str =
-    "the number of a column, 1 to 1000, or { fixed = \"TEXT\" } (names need header = true)";
+    "the number of a column, 1 to 1000, { fixed = \"TEXT\" } or { column = 3, bits = 128 } (names need header = true)";
 
 /// The keys of all mappings, table by table.
-pub static KEYS: [Row; 74] = [
+pub static KEYS: [Row; 78] = [
     ("", "file", ALL, TABLE),
     ("", "column", ALL, TABLE),
     ("", "price", ALL, TABLE),
@@ -256,9 +291,12 @@ pub static KEYS: [Row; 74] = [
     ("column", "bid_participant", BESTS, VENUE),
     ("column", "bid", QUOTED, NEEDED),
     ("column", "bid_size", QUOTED, NEEDED),
-    ("column", "offer_participant", BESTS, VENUE),
-    ("column", "offer", QUOTED, NEEDED),
-    ("column", "offer_size", QUOTED, NEEDED),
+    ("column", "offer_participant", BESTS, OFFER_VENUE),
+    ("column", "ask_participant", BESTS, ASK_VENUE),
+    ("column", "offer", QUOTED, OFFER),
+    ("column", "ask", QUOTED, ASK),
+    ("column", "offer_size", QUOTED, OFFER_SIZE),
+    ("column", "ask_size", QUOTED, ASK_SIZE),
     ("column", "price", TRADES, NEEDED),
     ("column", "shares", TRADES, NEEDED),
     ("column", "side", TRADES, COLUMN),
@@ -272,6 +310,7 @@ pub static KEYS: [Row; 74] = [
     ("size", "lot", QUOTED, LOT),
     ("time", "form", ALL, TIME_FORM),
     ("time", "zone_offset", ALL, ZONE),
+    ("time", "zone", ALL, ZONE_NAME),
     ("time", "order", QUOTES, ORDER),
     ("time", "order", BESTS, IN_TIME),
     ("participant", "*", ALL, NAME),
@@ -316,14 +355,14 @@ fn has(kinds: Kinds, kind: Kind) -> bool
     }
 }
 
-/// Whether a key is of a table of mappings of a kind.
+/// Whether a key belongs to a table of mappings of a kind.
 pub fn is_of(row: &Row, kind: Kind, table: &str) -> bool
     ensures { result ≡ is_of kind table.now (see row.now) }
 {
     has(row.2, kind) && row.0 == table
 }
 
-/// Whether a table of mappings of a kind has a key of this name.
+/// Whether a table of mappings of a kind has a key with this name.
 pub fn is_key(rows: &[Row], kind: Kind, table: &str, name: &str) -> bool
     ensures { result ≡ is_key (map see rows.now) kind table.now name.now }
 {
@@ -335,7 +374,7 @@ pub fn is_key(rows: &[Row], kind: Kind, table: &str, name: &str) -> bool
     false
 }
 
-/// The keys of a table of mappings of a kind, in words: what is expected in the place of another key.
+/// The keys of a table of mappings of a kind, in words. One of them is expected instead of another key.
 pub fn keys_text(
     alloc: Global,
     kind: Kind,

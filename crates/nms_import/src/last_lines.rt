@@ -7,16 +7,17 @@ use csv::ByteRecord;
 use nms_lines::field_at;
 use nms_units::parse_digits;
 
-/// What is known of the last lines of files. Without a place of their count nothing is asked of them.
+/// What is known about the last lines of files. Without a place for their count nothing is required of them.
 #[derive(Clone, Copy)]
 pub struct LastLines {
-    /// The place of the count in a last line, from 0.
+    /// The place of the count in a last line, counted from 0.
     pub count: Option<u16>,
-    /// How many rows stand before the part of the file that is being read: before the file, or up to the last last line.
+    /// How many rows come before the part of the file that is being read. They are those before the file, or up to the latest
+    /// last line.
     pub begun: u64,
     /// Whether the file has had a last line.
     pub ended: bool,
-    /// Whether a count was another one, or a file did not end with a last line.
+    /// Whether a count was wrong, or a file did not end with a last line.
     pub short: bool,
 }
 
@@ -25,7 +26,7 @@ impl LastLines {
     ghost use Rattle.csv.specs.Records.{fields_of};
     ghost use Rattle.nms_import.specs.LastLines.{after_file, after_last, before_files, in_file};
 
-    /// Before the first file.
+    /// The state before the first file.
     pub fn new(count: Option<u16>) -> LastLines
         ensures { result ≡ before_files count }
     {
@@ -37,7 +38,7 @@ impl LastLines {
         }
     }
 
-    /// Begins a file, after n rows of others.
+    /// Begins a file, after n rows of earlier files.
     pub fn begin_file(&mut self, rows: u64)
         ensures { self.new ≡ in_file self.old rows }
     {
@@ -45,7 +46,7 @@ impl LastLines {
         self.ended = false;
     }
 
-    /// Notes a last line, which is the row of this number.
+    /// Notes a last line, which is the row with this number.
     pub fn note(&mut self, row: &ByteRecord, number: u64)
         ensures { self.new ≡ after_last self.old (fields_of row.now) number }
     {
@@ -63,7 +64,7 @@ impl LastLines {
     }
 }
 
-/// Whether a last line, the row of this number, has another count than that of the rows after the first `begun`.
+/// Whether a last line, the row with this number, has another count than that of the rows after the first `begun`.
 fn lacks_count(count: Option<u16>, row: &ByteRecord, begun: u64, number: u64) -> bool
     ensures { result ≡ lacks_count count (fields_of row.now) begun number }
 {
@@ -73,7 +74,7 @@ fn lacks_count(count: Option<u16>, row: &ByteRecord, begun: u64, number: u64) ->
     }
 }
 
-/// Whether a text is the count of the rows after the first `begun` and before the row of this number.
+/// Whether a text is the count of the rows after the first `begun` and before the row with this number.
 fn is_counted(text: &[u8], begun: u64, number: u64) -> bool
     ensures { result ≡ is_counted text.now begun number }
 {

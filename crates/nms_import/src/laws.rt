@@ -1,4 +1,4 @@
-//! Laws above the definitions. Each function does nothing: its contract is the law.
+//! Laws about the definitions. Each function does nothing: its contract is the law.
 ghost use Rattle.nms_import.specs.Examples.{ExamplesHold};
 ghost use Rattle.nms_import.specs.FaultExamples.{FaultExamplesHold};
 

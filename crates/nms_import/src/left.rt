@@ -1,4 +1,4 @@
-//! How many refused rows withdrew what stood before.
+//! How many refused rows withdrew earlier quotations.
 ghost use Rattle.std.specs.Prelude.{◌≡◌, ◌+◌, IfSome};
 
 use crate::noting::Notes;
@@ -7,15 +7,15 @@ use crate::tally::Sums;
 /// How many refused rows withdrew what their participant showed, and how many did not.
 #[derive(Clone, Copy)]
 pub struct Left {
-    /// After these the participant shows nothing of the symbol until its next row that is read.
+    /// After these rows the participant shows nothing of the symbol until its next row that is read.
     pub withdrawn: u64,
-    /// After these a quotation that stood before may stand on: the row names no participant and symbol of the roster, its
+    /// After these rows an earlier quotation may still be shown. The row names no participant and symbol of the roster, its
     /// symbol had ended, or the mapping keeps it.
     pub kept: u64,
 }
 
 impl Left {
-    /// By the sums of the rows, and the changes that were noted of them. `None` comes only of notes of other rows.
+    /// The numbers by the sums of the rows, and the changes that were noted. `None` comes only if the notes are of other rows.
     pub fn of(sums: &Sums, notes: &Notes) -> Option<Left>
         ensures withdrawn { IfSome result (λ left. notes.now.changes ≡ sums.now.changes + left.withdrawn) }
         ensures all { IfSome result (λ left. sums.now.refused ≡ left.withdrawn + left.kept) }

@@ -1,5 +1,5 @@
-//! Vendors' delimited files as changes, by a mapping: what each row makes, the texts that are written, and the counts of
-//! every outcome.
+//! Reading vendors' delimited files as changes, by a mapping: what each row makes, the texts that are written, and the counts
+//! of every outcome.
 #![tactic(auto)]
 
 mod cause;
@@ -44,18 +44,24 @@ pub use laws::{worked_examples, worked_faults};
 pub use left::Left;
 pub use map_fault::{Finding, MapFault, Wrong};
 pub use mapping::{FileForm, Mapping, Order, Source, place_of};
-pub use mapping_reading::{document_of, mapping_by, mapping_of};
-pub use meanings::{Half, Meaning, Meanings, PriceUnit, Renamed, Replaced, Said, TimeForm, Word};
+pub use mapping_reading::{document_of, key_of, mapping_by, mapping_of};
+pub use meanings::{
+    Half, Meaning, Meanings, PriceUnit, Renamed, Replaced, Said, TimeForm, Word, Zone,
+};
 pub use noting::Notes;
+pub use number::without_zeros;
 pub use reading::{add_words, byte_in, common_in, file_in, source_at};
 pub use row::{entry_with, left_in, left_with, read_row, symbol_in};
 pub use row_source::RowSource;
 pub use rows::{line_of, next_row, open_rows};
 pub use tally::{MOST_ROWS, Sums, Tally, sum_of};
-pub use telling::{RowPlace, Told, show_row, write_symbols, write_tally};
+pub use telling::{
+    RowPlace, Telling, Told, column_of, most_of, no_time, sentence_of, show_row, write_symbols,
+    write_tally,
+};
 pub use time::{append_clock, append_line, clock_of};
 pub use toml::Table;
 pub use words::{is_listed, name_of};
 
-/// How many rows that make no change are shown, of all files together.
+/// How many rows that make no change are shown, for all files together.
 pub const MOST_TOLD: u64 = 100;

@@ -8,7 +8,7 @@ use std::alloc::AllocError;
 /// What is wrong at a key.
 #[derive(Clone, Copy, PartialEq, Eq)]
 pub enum Wrong {
-    /// M2: it is needed, and absent.
+    /// M2: the key is needed, but absent.
     Missing,
     /// M3: there is no such key.
     Unknown,
@@ -27,16 +27,16 @@ pub struct Finding<'a> {
     pub word: Option<usize>,
     /// What is wrong.
     pub wrong: Wrong,
-    /// What is expected there; empty for an unknown key, where it is any other (`keys_text`).
+    /// What is expected there. It is empty for an unknown key, instead of which any other key may be meant (`keys_text`).
     pub expected: &'static str,
 }
 
 /// Why a mapping is refused.
 #[derive(Clone, Copy)]
 pub enum MapFault<'a> {
-    /// M1: the text is no TOML document, from this line on.
+    /// M1: the text is not a TOML document, from this line on.
     NotToml {
-        /// The line, from 1.
+        /// The line, counted from 1.
         line: u64,
     },
     /// M2 to M4: a fault of the document.
@@ -53,7 +53,7 @@ pub enum MapFault<'a> {
 }
 
 impl Wrong {
-    /// Its code, `M2` to `M4`.
+    /// The code of the fault, `M2` to `M4`.
     pub fn code(self) -> &'static str
         ensures code { result.now ≡ wrong_code self }
         ensures plain { is_plain result.now ≡ true }
@@ -67,7 +67,7 @@ impl Wrong {
 }
 
 impl MapFault<'_> {
-    /// Its code, `M1` to `M6`.
+    /// The code of the fault, `M1` to `M6`.
     pub fn code(&self) -> &'static str
         ensures code { result.now ≡ code_of self.now }
         ensures plain { is_plain result.now ≡ true }

@@ -17,48 +17,56 @@ pub struct FileForm {
     pub delimiter: u8,
     /// Whether the first row names the columns.
     pub header: bool,
-    /// Whether a double quote quotes; else it is a byte as any other.
+    /// Whether a double quote quotes; else it is a byte like any other.
     pub quotes: bool,
-    /// The place, from 0, of the field of a last line that counts the rows before it.
+    /// The place, counted from 0, of the field of a last line that counts the rows before it.
     pub count: Option<u16>,
 }
 
-/// What a mapping says of the order of a file's rows.
+/// What a mapping says about the order of a file's rows.
 #[derive(Clone, Copy, PartialEq, Eq)]
 pub enum Order {
     /// No time is before that of an earlier row.
     Given,
     /// No time is before that of an earlier row of the same symbol.
     Symbol,
-    /// Nothing: times may fall, and no version is found by its time.
+    /// The order is not known: times may fall, and no version is found by its time.
     Free,
 }
 
-/// What a mapping says of a column.
+/// What a mapping says about a column.
 pub enum Source {
-    /// Its place, from 0.
+    /// The column's place, counted from 0.
     Place(u16),
-    /// Its name in the first row.
+    /// The column's name in the first row.
     Named(Vec<u8>),
     /// The same text in every row.
     Fixed(Vec<u8>),
+    /// Some bits of the number at its place, from 0.
+    PlaceBits(u16, u16),
+    /// Some bits of the number in the column of its name in the first row.
+    NamedBits(Vec<u8>, u16),
 }
 
-/// A `Drop` of its own: a function that holds one then has one call at each exit, and not one for each part (docs/GATE.md).
+/// It has its own `Drop`, so that a function that holds one has one call at each exit, and not one for each part (docs/GATE.md).
 impl Drop for Source {
     fn drop(self) {
         match self {
             Source::Place(_) => (),
             Source::Named(_) => (),
             Source::Fixed(_) => (),
+            Source::PlaceBits(_, _) => (),
+            Source::NamedBits(_, _) => (),
         }
     }
 }
 
-/// What a mapping says of the columns.
+/// What a mapping says about the columns.
 pub struct Sources {
     /// The key of the participant's column.
     pub(crate) participant_key: &'static str,
+    /// The keys of the columns of the offer and of its size.
+    pub(crate) offer_keys: (&'static str, &'static str),
     pub(crate) time: Source,
     pub(crate) participant: Source,
     pub(crate) symbol: Source,
@@ -71,11 +79,12 @@ pub struct Sources {
     pub(crate) skip: Source,
 }
 
-/// A `Drop` of its own: a function that holds one then has one call at each exit, and not one for each part (docs/GATE.md).
+/// It has its own `Drop`, so that a function that holds one has one call at each exit, and not one for each part (docs/GATE.md).
 impl Drop for Sources {
     fn drop(self) {
         let Sources {
             participant_key: _,
+            offer_keys: _,
             time: _,
             participant: _,
             symbol: _,
@@ -92,16 +101,16 @@ impl Drop for Sources {
 
 /// A mapping.
 pub struct Mapping {
-    /// How a file is laid out.
+    /// How the file is laid out.
     pub file: FileForm,
-    /// The order of its rows.
+    /// The order of the file's rows.
     pub order: Order,
     /// What the texts mean.
     pub meanings: Meanings,
     pub(crate) sources: Sources,
 }
 
-/// A `Drop` of its own: a function that holds one then has one call at each exit, and not one for each part (docs/GATE.md).
+/// It has its own `Drop`, so that a function that holds one has one call at each exit, and not one for each part (docs/GATE.md).
 impl Drop for Mapping {
     fn drop(self) {
         let Mapping {
@@ -122,7 +131,7 @@ impl Source {
     ghost use Rattle.std.specs.Prelude.{◌≡◌, true};
     ghost use Rattle.nms_import.specs.Readings.{is_nothing, is_within};
 
-    /// The empty text in every row.
+    /// A column that is the empty text in every row.
     pub fn nothing(alloc: Global) -> Source
         ensures nothing { is_nothing result ≡ true }
         ensures within { is_within result ≡ true }
@@ -152,8 +161,9 @@ impl Mapping {
         all.symbol = place_of(alloc, &from.symbol, "symbol", names, width)?;
         all.bid = place_of(alloc, &from.bid, "bid", names, width)?;
         all.bid_size = place_of(alloc, &from.bid_size, "bid_size", names, width)?;
-        all.offer = place_of(alloc, &from.offer, "offer", names, width)?;
-        all.offer_size = place_of(alloc, &from.offer_size, "offer_size", names, width)?;
+        let (offer, offer_size) = from.offer_keys;
+        all.offer = place_of(alloc, &from.offer, offer, names, width)?;
+        all.offer_size = place_of(alloc, &from.offer_size, offer_size, names, width)?;
         all.source = place_of(alloc, &from.source, "condition", names, width)?;
         all.condition = place_of(alloc, &from.condition, "condition", names, width)?;
         all.skip = place_of(alloc, &from.skip, "skip", names, width)?;
@@ -161,8 +171,8 @@ impl Mapping {
     }
 }
 
-/// Where the column of a key stands in a file whose first row is `names`. A row of at least `width` columns has it, so
-/// `width` grows with it. `NoColumn` if the row lacks its name, or has it twice.
+/// The place of a key's column in a file whose first row is `names`. A row of at least `width` columns has it, so `width` grows
+/// with it. `NoColumn` if the row lacks its name, or has it twice.
 pub fn place_of(
     alloc: Global,
     source: &Source,
@@ -181,25 +191,49 @@ pub fn place_of(
             *width = (*width).max(place + 1);
             Ok(Column::At(place))
         }
+        Source::PlaceBits(place, bits) => {
+            let place = usize::from(*place);
+            *width = (*width).max(place + 1);
+            Ok(Column::Bits(place, *bits))
+        }
         Source::Fixed(text) => Ok(Column::Fixed(Vec::from_slice(alloc, text)?)),
-        Source::Named(name) => match named(names, name) {
-            Some(place) if is_later(names, name, place) => {
-                let expected = ONE_COLUMN;
-                Err(MapFault::NoColumn { key, expected })
-            }
-            Some(place) => {
-                *width = (*width).max(place + 1);
-                Ok(Column::At(place))
-            }
-            None => {
-                let expected = A_COLUMN;
-                Err(MapFault::NoColumn { key, expected })
-            }
-        },
+        Source::Named(name) => {
+            let place = only_named(names, name, key)?;
+            *width = (*width).max(place + 1);
+            Ok(Column::At(place))
+        }
+        Source::NamedBits(name, bits) => {
+            let place = only_named(names, name, key)?;
+            *width = (*width).max(place + 1);
+            Ok(Column::Bits(place, *bits))
+        }
     }
 }
 
-/// Whether a column after a place has that name.
+/// The place of the column of that name, if the row has it once.
+fn only_named(
+    names: &ByteRecord,
+    name: &[u8],
+    key: &'static str,
+) -> Result<usize, MapFault<'static>>
+    ensures place { IfOk result (λ place. place < 18446744073709551615) }
+    ensures name { IfOk result (λ place. field_at (fields_of names.now) place ≡ Some name.now) }
+    ensures fault { IfErr result (λ fault. is_of_first_row fault ≡ true) }
+{
+    match named(names, name) {
+        Some(place) if is_later(names, name, place) => {
+            let expected = ONE_COLUMN;
+            Err(MapFault::NoColumn { key, expected })
+        }
+        Some(place) => Ok(place),
+        None => {
+            let expected = A_COLUMN;
+            Err(MapFault::NoColumn { key, expected })
+        }
+    }
+}
+
+/// Whether a column after a place has the given name.
 fn is_later(names: &ByteRecord, name: &[u8], place: usize) -> bool
     requires { place < 18446744073709551615 }
 {
@@ -211,7 +245,7 @@ fn is_later(names: &ByteRecord, name: &[u8], place: usize) -> bool
     false
 }
 
-/// The place of the first column of that name.
+/// The place of the first column with the given name.
 fn named(names: &ByteRecord, name: &[u8]) -> Option<usize>
     ensures place { IfSome result (λ place. place < 18446744073709551615) }
     ensures name { IfSome result (λ place. field_at (fields_of names.now) place ≡ Some name.now) }

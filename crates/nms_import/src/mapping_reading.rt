@@ -1,4 +1,4 @@
-//! A mapping of quotes from its TOML document: `specs/Readings`.
+//! Reading a mapping of quotes from its TOML document: `specs/Readings`.
 ghost use Rattle.std.specs.Prelude.{◌≡◌, ◌≢◌, ◌<◌, ◌≤◌, IfErr, IfOk, Some, None, true};
 ghost use Rattle.toml.specs.Parse.{parse_document};
 ghost use Rattle.toml.specs.View.{table_view};
@@ -21,7 +21,7 @@ use nms_units::MOST_LOT;
 use std::alloc::{AllocError, Global};
 use toml::Table;
 
-/// The document of a text.
+/// The TOML document of a text.
 pub fn document_of(alloc: Global, text: &str) -> Result<Table, MapFault<'static>>
     ensures document { IfOk result (λ document. parse_document text.now ≡ Some (table_view document)) }
     ensures refused { IfErr result (λ fault. fault ≢ MapFault.NoMemory → parse_document text.now ≡ None) }
@@ -42,7 +42,7 @@ pub fn document_of(alloc: Global, text: &str) -> Result<Table, MapFault<'static>
     }
 }
 
-/// The line of a text on which a byte stands, from 1.
+/// The line of a text that has the byte at a place, counted from 1.
 fn line_at(text: &str, place: usize) -> u64 {
     let bytes = text.as_bytes();
     let mut line = 1u64;
@@ -54,7 +54,7 @@ fn line_at(text: &str, place: usize) -> u64 {
     line
 }
 
-/// The mapping of quotes of a document, or the first of its faults.
+/// The mapping of quotes that a document gives, or the first of its faults.
 pub fn mapping_of(alloc: Global, document: &Table) -> Result<Mapping, MapFault<'_>>
     ensures mapping { IfOk result (IsMappingOf (plain kind.Quotes (table_view document.now))) }
     ensures refused { IfErr result (IsFirst (faults_of (plain kind.Quotes (table_view document.now)))) }
@@ -62,7 +62,7 @@ pub fn mapping_of(alloc: Global, document: &Table) -> Result<Mapping, MapFault<'
     mapping_by(alloc, Draft::new(Kind::Quotes, document), "participant")
 }
 
-/// The mapping of a document, or the first of its faults. The participant's column is that of the key.
+/// The mapping that a document gives, or the first of its faults. The participant's column is that of the given key.
 pub fn mapping_by<'a>(
     alloc: Global,
     draft: Draft<'a>,
@@ -81,7 +81,7 @@ pub fn mapping_by<'a>(
     })
 }
 
-/// The order of the rows. National bests are found by their times, so theirs is never free.
+/// The order of the rows. Because national bests are found by their times, the order of theirs is never free.
 fn order_in(draft: Draft<'_>) -> Order
     ensures { (doc_of draft.entry).kind ≡ Kind.Bests → result ≢ Order.Free }
 {
@@ -106,7 +106,7 @@ fn meanings_in(alloc: Global, draft: Draft<'_>) -> Result<Meanings, AllocError>
     Ok(all)
 }
 
-/// The shares of a unit of size: 1, or those of a lot.
+/// The number of shares that a unit of size has: 1, or those of a lot.
 fn shares_in(draft: Draft<'_>) -> u32
     ensures some { 0 < result }
     ensures few { result ≤ MOST_LOT }
@@ -120,7 +120,7 @@ fn shares_in(draft: Draft<'_>) -> u32
     }
 }
 
-/// What becomes of a row of which one side alone is manual.
+/// What is done with a row that has only one manual side.
 fn half_in(draft: Draft<'_>) -> Half {
     match draft.text("state", "half") {
         Some("manual") => Half::Manual,
@@ -129,7 +129,7 @@ fn half_in(draft: Draft<'_>) -> Half {
     }
 }
 
-/// Adds the conditions. Without the table the empty condition alone is one, and it is automated.
+/// Adds the conditions. Without the table only the empty condition is known, and it is automated.
 fn add_states(alloc: Global, draft: Draft<'_>, said: &mut Vec<Said>) -> Result<(), AllocError> {
     if draft.members("state").is_none() {
         let word = Vec::new(alloc);
@@ -167,14 +167,28 @@ fn add_conditions(
     Ok(())
 }
 
+/// The key of a column: the other one, if that is in its place.
+pub fn key_of(draft: Draft<'_>, key: &'static str, other: &'static str) -> &'static str {
+    if draft.value("column", key).is_none() && draft.value("column", other).is_some() {
+        other
+    } else {
+        key
+    }
+}
+
 /// What the mapping says of the columns.
 fn sources_in(
     alloc: Global,
     draft: Draft<'_>,
     participant: &'static str,
 ) -> Result<Sources, AllocError> {
+    let offer_keys = (
+        key_of(draft, "offer", "ask"),
+        key_of(draft, "offer_size", "ask_size"),
+    );
     let mut all = Sources {
         participant_key: participant,
+        offer_keys,
         time: Source::nothing(alloc),
         participant: Source::nothing(alloc),
         symbol: Source::nothing(alloc),
@@ -191,8 +205,8 @@ fn sources_in(
     all.symbol = source_at(alloc, draft, "symbol")?;
     all.bid = source_at(alloc, draft, "bid")?;
     all.bid_size = source_at(alloc, draft, "bid_size")?;
-    all.offer = source_at(alloc, draft, "offer")?;
-    all.offer_size = source_at(alloc, draft, "offer_size")?;
+    all.offer = source_at(alloc, draft, offer_keys.0)?;
+    all.offer_size = source_at(alloc, draft, offer_keys.1)?;
     all.skip = source_at(alloc, draft, "skip")?;
     match draft.items("column", "condition") {
         [first, second] => {

@@ -1,10 +1,10 @@
 //! What the texts of a file mean: `specs/Mapping`.
 use nms_quote::{QState, Side};
 
-/// What a price counts.
+/// The unit of a price.
 #[derive(Clone, Copy)]
 pub enum PriceUnit {
-    /// Dollars: 1 to 7 digits, and at most a point with 1 to 4 digits.
+    /// Dollars: 1 to 7 digits, and at most a point with 1 to 4 digits, and zeros after them.
     Dollars,
     /// 1/10,000 dollar: 1 to 11 digits.
     TenThousandths,
@@ -12,23 +12,38 @@ pub enum PriceUnit {
     Nanodollars,
 }
 
-/// How a time of day is written. All but the first are moved on by the mapping's zone.
+/// The form in which a time of day is written. Times with a date are moved on by the mapping's zone.
 #[derive(Clone, Copy)]
 pub enum TimeForm {
     /// `HHMMSSn`: six digits and up to nine after them.
     Clock,
+    /// `HH:MM:SS`: at most a point with 1 to 9 digits after it.
+    Colons,
     /// `seconds`: seconds after midnight, 1 to 5 digits, and at most a point with 1 to 9 digits.
     Seconds,
     /// `unix_ns`: nanoseconds since 1970, 1 to 19 digits.
     UnixNanoseconds,
-    /// `iso`: a date, `T` or a blank, `HH:MM:SS`, at most a point with 1 to 9 digits, and at most a `Z`.
+    /// `unix_us`: microseconds since 1970, 1 to 16 digits.
+    UnixMicroseconds,
+    /// `unix_ms`: milliseconds since 1970, 1 to 13 digits.
+    UnixMilliseconds,
+    /// `iso`: a date, `T` or a blank, a time as `HH:MM:SS`, and at most a `Z` or an offset from UTC, as `-05:00`.
     Iso,
+}
+
+/// How times with a date are moved to the clock of the market.
+#[derive(Clone, Copy)]
+pub enum Zone {
+    /// On by some seconds, over midnight: 68,400 for a zone of `-0500`.
+    Moved(u32),
+    /// To New York's time at that instant.
+    NewYork,
 }
 
 /// What becomes of a row whose condition makes one side alone manual.
 #[derive(Clone, Copy)]
 pub enum Half {
-    /// It is refused.
+    /// The row is refused.
     Refuse,
     /// Both sides are manual.
     Manual,
@@ -43,7 +58,7 @@ pub enum Meaning {
     Quoted(QState),
     /// There is no quotation on either side.
     Nothing,
-    /// This side alone is manual, and the other automated.
+    /// Only this side is manual, and the other is automated.
     ManualSide(Side),
 }
 
@@ -54,21 +69,21 @@ pub struct Word {
     pub text: Vec<u8>,
 }
 
-/// A word of the file, and the participant's name on the roster.
+/// A word of the file for a participant, and the participant's name on the roster.
 #[derive(Drop)]
 pub struct Renamed {
-    /// As the file has it.
+    /// The word in the file.
     pub word: Vec<u8>,
-    /// As the roster has it.
+    /// The name on the roster.
     pub name: Vec<u8>,
 }
 
-/// A byte of the file's symbols, and what stands in its place on the roster.
+/// A byte of the file's symbols, and the byte that replaces it on the roster.
 #[derive(Clone, Copy)]
 pub struct Replaced {
-    /// As the file has it.
+    /// The byte in the file.
     pub from: u8,
-    /// As the roster has it.
+    /// The byte on the roster.
     pub to: u8,
 }
 
@@ -85,29 +100,29 @@ pub struct Said {
 pub struct Meanings {
     /// How a time is written.
     pub time_form: TimeForm,
-    /// By how many seconds a time is moved on, over midnight: 68,400 for a zone of `-0500`.
-    pub zone: u32,
+    /// How a time is moved.
+    pub zone: Zone,
     /// What a price counts.
     pub price_unit: PriceUnit,
-    /// The words that stand for no price.
+    /// The words that mean no price.
     pub no_price: Vec<Word>,
-    /// The shares of a unit of size: 1, or those of a lot.
+    /// The number of shares that a unit of size has: 1, or those of a lot.
     pub size_unit: u32,
-    /// Whether a unit of size is the round lot that the setup gives the row's symbol; `size_unit` is not used then.
+    /// Whether a unit of size is the round lot that the setup gives the row's symbol. Then `size_unit` is not used.
     pub own_lots: bool,
     /// The participants that have another name on the roster.
     pub names: Vec<Renamed>,
     /// Whether any other participant has its own name.
     pub same: bool,
-    /// What is replaced in symbols, the first that is found.
+    /// The bytes that are replaced in symbols. The first pair that fits is used.
     pub replaced: Vec<Replaced>,
     /// Whether symbols that are not on the roster are skipped; else they are refused.
     pub skips_symbols: bool,
     /// The conditions.
     pub said: Vec<Said>,
-    /// What becomes of a row of which one side alone is manual.
+    /// What is done with a row that has only one manual side.
     pub half: Half,
-    /// Whether the participant of a refused row shows nothing of its symbol until its next row; else what stood before is kept.
+    /// Whether the participant of a refused row shows nothing of its symbol until its next row; else the earlier quotation is kept.
     pub withdraws: bool,
     /// The words that a last line begins with.
     pub ends: Vec<Word>,
@@ -115,7 +130,7 @@ pub struct Meanings {
     pub skips: Vec<Word>,
 }
 
-/// A `Drop` of its own: a function that holds one then has one call at each exit, and not one for each part (docs/GATE.md).
+/// It has its own `Drop`, so that a function that holds one has one call at each exit, and not one for each part (docs/GATE.md).
 impl Drop for Meanings {
     fn drop(self) {
         let Meanings {

@@ -1,4 +1,4 @@
-//! What is noted of the accepted rows: the span of each symbol, whether times fall, and whether any row shows a whole lot
+//! What is noted about the accepted rows: the span of each symbol, whether times fall, and whether any row shows a round lot
 //! (`specs/Noted`).
 ghost use Rattle.std.specs.Prelude.{◌≡◌, ◌<◌, ◌-◌, ◌^◌, None, IfOk, replicate, slice_get, slice_set, unwrap_or};
 ghost use Rattle.nms_import.specs.Noted.{bound_by, is_lot_shown, is_outside, shares_shown, with_change, with_outside};
@@ -25,7 +25,7 @@ pub struct Span {
     pub time: u64,
 }
 
-/// What is noted of the accepted rows.
+/// What is noted about the accepted rows.
 #[derive(Drop)]
 pub struct Notes {
     order: Order,
@@ -64,7 +64,7 @@ impl Notes {
     ghost use Rattle.nms_import.specs.LastLines.{after_file, after_last, in_file};
     ghost use Rattle.nms_import.specs.Noted.{after_entry, are_hours_odd, noted_nothing};
 
-    /// Of no rows. `count` is the place of the count in the last line of a file, from 0.
+    /// The notes before any row. `count` is the place of the count in the last line of a file, counted from 0.
     pub fn new(
         alloc: Global,
         roster: &Roster,
@@ -76,7 +76,7 @@ impl Notes {
         Notes::of_symbols(alloc, roster.syms(), order, count)
     }
 
-    /// Of no rows, with room for n symbols.
+    /// The notes before any row, with room for n symbols.
     pub fn of_symbols(
         alloc: Global,
         symbols: usize,
@@ -125,14 +125,14 @@ impl Notes {
         self.lasts.short
     }
 
-    /// Begins a file, after n rows of others.
+    /// Begins a file, after n rows of earlier files.
     pub fn begin_file(&mut self, rows: u64)
         ensures { self.new ≡ record self.old { lasts = in_file self.old.lasts rows } }
     {
         self.lasts.begin_file(rows);
     }
 
-    /// Notes the last line of a file, which is the row of this number.
+    /// Notes the last line of a file, which is the row with this number.
     pub fn note_last(&mut self, row: &ByteRecord, number: u64)
         ensures { self.new ≡ record self.old { lasts = after_last self.old.lasts (fields_of row.now) number } }
     {
@@ -167,14 +167,14 @@ impl Notes {
         &self.spans
     }
 
-    /// Begins with another symbol in the first place of the roster.
+    /// Begins another symbol in the first place of the roster.
     pub fn begin_symbol(&mut self)
         ensures { self.new ≡ record self.old { spans = slice_set self.old.spans 0 None } }
     {
         put(&mut self.spans, 0, None);
     }
 
-    /// Notes a change, and returns whether its time is the first that falls. `TooLong` comes after 2^64 - 1
+    /// Notes a change, and returns whether its time is the first that is before an earlier one. `TooLong` comes after 2^64 - 1
     /// changes.
     pub fn note(&mut self, roster: &Roster, entry: &Entry) -> Result<bool, ImportFault>
         ensures noted { OnOk result (self.new ≡ after_entry roster.now self.old entry.now) }
@@ -222,7 +222,7 @@ fn no_spans(alloc: Global, symbols: usize) -> Result<Vec<Option<Span>>, AllocErr
     Ok(spans)
 }
 
-/// The changes of the symbol at a place, `None` past the last.
+/// The changes of the symbol at a place; `None` past the last.
 fn span_at(spans: &[Option<Span>], place: usize) -> Option<Span>
     ensures { result ≡ unwrap_or (slice_get spans.now place) None }
 {
@@ -233,7 +233,7 @@ fn span_at(spans: &[Option<Span>], place: usize) -> Option<Span>
     }
 }
 
-/// Puts the changes of the symbol at a place; nothing past the last.
+/// Puts the changes of the symbol at a place. Past the last place it does nothing.
 fn put(spans: &mut [Option<Span>], place: usize, span: Option<Span>)
     ensures { spans.new ≡ slice_set spans.old place span }
 {
@@ -242,7 +242,7 @@ fn put(spans: &mut [Option<Span>], place: usize, span: Option<Span>)
     }
 }
 
-/// A count, and one more if a time is before 04:00 or after 20:00.
+/// The given count, with one more if a time is before 04:00 or after 20:00.
 fn with_outside(count: u64, time: u64) -> u64
     requires { count < 2 ^ 64 - 1 }
     ensures { result ≡ with_outside count time }
@@ -257,7 +257,7 @@ fn is_outside(time: u64) -> bool
     time < 40_000_000_000_000 || time > 200_000_000_000_000
 }
 
-/// The time that a row may not be before, by that of the last row and the changes of its symbol.
+/// The earliest time that a row may have, by that of the last row and the changes of its symbol.
 fn bound_by(order: Order, time: u64, span: &Option<Span>) -> u64
     ensures { result ≡ bound_by order time span.now }
 {

@@ -1,15 +1,17 @@
-//! Prices and sizes: `specs/Mapping`.
-ghost use Rattle.std.specs.Prelude.{◌≡◌, ◌<◌, ◌≤◌, ◌^◌, IfSome, Some};
+//! Reading prices and sizes: `specs/Mapping`.
+ghost use Rattle.std.specs.Prelude.{◌≡◌, ◌<◌, ◌≤◌, ◌+◌, ◌^◌, length, true, IfSome, Some};
+ghost use Rattle.std.specs.List.{list_all};
 ghost use Rattle.nms_units.specs.Price.{price_number};
-ghost use Rattle.nms_import.specs.Mapping.{number_of, price_of, shares_of, shares_within, side_of};
+ghost use Rattle.nms_import.specs.Mapping.{has_more_zeros, is_lacking, is_zero, number_of, price_of, shares_of, shares_within, side_of, without_zeros};
 
 use crate::cause::Cause;
 use crate::meanings::{Meanings, PriceUnit};
+use crate::time::point_in;
 use crate::words::is_listed;
 use nms_quote::{Side, SideQuote};
 use nms_units::{MOST_SHARES, Price, Shares, UnitFault, parse_digits};
 
-/// What a side quotes, `None` if it has no shares. A size counts `unit` shares.
+/// The quotation of a side; `None` if it has no shares. A size counts units of `unit` shares.
 pub(crate) fn side_in(
     meanings: &Meanings,
     unit: u32,
@@ -30,11 +32,11 @@ pub(crate) fn side_in(
     }
 }
 
-/// A price, `None` for an empty field, a word for none, or zero.
+/// A price; `None` for an empty field, `nan`, a word for none, or zero.
 fn price_in(meanings: &Meanings, side: Side, text: &[u8]) -> Result<Option<Price>, Cause>
     ensures { result ≡ price_of meanings.now side text.now }
 {
-    if text.is_empty() || is_listed(&meanings.no_price, text) {
+    if is_lacking(text) || is_listed(&meanings.no_price, text) {
         return Ok(None);
     }
     match number_of(meanings.price_unit, text) {
@@ -47,7 +49,7 @@ fn price_in(meanings: &Meanings, side: Side, text: &[u8]) -> Result<Option<Price
     }
 }
 
-/// The number that a price is, in 1/10,000 dollar, zero among them.
+/// The number of a price, in 1/10,000 dollar. It may be zero.
 fn number_of(unit: PriceUnit, text: &[u8]) -> Option<u64>
     ensures { result ≡ number_of unit text.now }
 {
@@ -61,31 +63,71 @@ fn number_of(unit: PriceUnit, text: &[u8]) -> Option<u64>
     }
 }
 
-/// Dollars with at most 4 decimals, in 1/10,000 dollar.
+/// A number of dollars, in 1/10,000 dollar. At most 4 decimals count.
 fn dollars_in(text: &[u8]) -> Option<u64>
-    ensures { result ≡ price_number text.now }
+    ensures { result ≡ price_number (without_zeros 4 text.now) }
 {
-    match Price::parse(text) {
+    match Price::parse(without_zeros(4, text)) {
         Ok(price) => Some(price.get()),
         Err(UnitFault::ZeroPrice) => Some(0),
         Err(UnitFault::BadPrice | UnitFault::BadShares | UnitFault::BadMoney) => None,
     }
 }
 
-/// The shares of a size, which counts `unit` shares; an empty field is 0.
+/// Whether a number is lacking: an empty field, or `nan`.
+fn is_lacking(text: &[u8]) -> bool
+    ensures { result ≡ is_lacking text.now }
+{
+    text.is_empty() || text == b"nan".as_slice() || text == b"NaN".as_slice()
+}
+
+/// A number without the zeros after its first decimals. If no decimals are kept, its point goes too.
+pub fn without_zeros(decimals: usize, text: &[u8]) -> &[u8]
+    ensures { result.now ≡ without_zeros decimals text.now }
+{
+    let Some(point) = point_in(text) else {
+        return text;
+    };
+    if !has_more_zeros(decimals, text, point) {
+        return text;
+    }
+    if decimals == 0 {
+        &text[..point]
+    } else {
+        &text[..point + 1 + decimals]
+    }
+}
+
+/// Whether there are more decimals than are kept, all of them zeros.
+fn has_more_zeros(decimals: usize, text: &[u8], point: usize) -> bool
+    requires { point < length text.now }
+    ensures zeros { result ≡ has_more_zeros decimals text.now point }
+    ensures long { result ≡ true → point + 1 + decimals < length text.now }
+{
+    decimals < text.len() - point - 1 && are_zeros(&text[point + 1 + decimals..])
+}
+
+/// Whether a text has only zeros.
+fn are_zeros(text: &[u8]) -> bool
+    ensures { result ≡ list_all is_zero text.now }
+{
+    text.iter().all(|c| *c == b'0')
+}
+
+/// The shares of a size, which counts units of `unit` shares; 0 for an empty field and `nan`.
 fn shares_in(unit: u32, side: Side, text: &[u8]) -> Result<Shares, Cause>
     ensures { result ≡ shares_of unit side text.now }
 {
-    if text.is_empty() {
+    if is_lacking(text) {
         return shares_within(side, 0);
     }
-    let Some(number) = parse_digits(text, 9) else {
+    let Some(number) = parse_digits(without_zeros(0, text), 9) else {
         return Err(Cause::BadSize(side));
     };
     shares_within(side, number * u64::from(unit))
 }
 
-/// A number of shares, if a side may have as many.
+/// A number of shares, if a side may have that number.
 fn shares_within(side: Side, count: u64) -> Result<Shares, Cause>
     ensures { result ≡ shares_within side (Some count) }
 {

@@ -1,14 +1,14 @@
-//! What a mapping's document says at the keys that mappings of quotes and of trades both have: `specs/Readings`. Each value is one
-//! that is allowed there; in the place of another stands what an absent key means.
+//! The values that a mapping's document has at the keys that mappings of quotes and of trades share: `specs/Readings`. Only
+//! allowed values are read. Instead of another value, the one of an absent key is taken.
 ghost use Rattle.std.specs.Prelude.{◌≡◌, ◌<◌, ◌≤◌, IfOk, IfSome, OnOk, true};
 ghost use Rattle.nms_import.specs.Drafts.{doc_of};
 ghost use Rattle.nms_import.specs.Forms.{is_delimiter};
-ghost use Rattle.nms_import.specs.Readings.{AreReadOf, form_in, form_named, is_within, seconds_in, unit_in, unit_named};
+ghost use Rattle.nms_import.specs.Readings.{AreReadOf, form_in, form_named, is_in_a_day, is_within, seconds_in, zone_of, unit_in, unit_named};
 
-use crate::draft::Draft;
+use crate::draft::{Draft, value_in};
 use crate::mapping::{FileForm, Source};
-use crate::meanings::{Half, Meanings, PriceUnit, Renamed, Replaced, TimeForm, Word};
-use crate::right::{MOST_COLUMNS, fixed_text, is_delimiter, zone_in};
+use crate::meanings::{Half, Meanings, PriceUnit, Renamed, Replaced, TimeForm, Word, Zone};
+use crate::right::{MOST_BITS, MOST_COLUMNS, fixed_text, is_delimiter, zone_in};
 use std::alloc::{AllocError, Global};
 use toml::Value;
 
@@ -49,20 +49,26 @@ fn delimiter_in(draft: Draft<'_>) -> u8
 pub(crate) fn number_in(draft: Draft<'_>, table: &str, key: &str, most: u16) -> Option<u16>
     ensures { IfSome result (λ n. (0 < n) × (n ≤ most)) }
 {
-    let number = draft.value(table, key)?.as_integer()?;
-    match u16::try_from(number) {
+    number_of(draft.value(table, key)?, most)
+}
+
+/// The number from 1 to `most` that a value is, if it is one.
+fn number_of(value: &Value, most: u16) -> Option<u16>
+    ensures { IfSome result (λ n. (0 < n) × (n ≤ most)) }
+{
+    match u16::try_from(value.as_integer()?) {
         Ok(number) if 1 <= number && number <= most => Some(number),
         Ok(_) | Err(_) => None,
     }
 }
 
-/// What the texts of a file mean, as far as mappings of quotes and of trades both say it.
+/// What the texts of a file mean, as far as mappings of quotes and of trades share it.
 pub fn common_in(alloc: Global, draft: Draft<'_>) -> Result<Meanings, AllocError>
     ensures { IfOk result (AreReadOf (doc_of draft.entry)) }
 {
     let mut all = Meanings {
         time_form: form_in(draft),
-        zone: seconds_in(draft),
+        zone: zone_of(draft),
         price_unit: unit_in(draft),
         no_price: Vec::new(alloc),
         size_unit: 1,
@@ -111,7 +117,21 @@ fn form_named(text: &str) -> Option<TimeForm>
         "seconds" => Some(TimeForm::Seconds),
         "unix_ns" => Some(TimeForm::UnixNanoseconds),
         "iso" => Some(TimeForm::Iso),
+        "HH:MM:SS" => Some(TimeForm::Colons),
+        "unix_us" => Some(TimeForm::UnixMicroseconds),
+        "unix_ms" => Some(TimeForm::UnixMilliseconds),
         _ => None,
+    }
+}
+
+/// How times are moved.
+fn zone_of(draft: Draft<'_>) -> Zone
+    ensures zone { result ≡ zone_of (doc_of draft.entry) }
+    ensures day { is_in_a_day result ≡ true }
+{
+    match draft.text("time", "zone") {
+        Some("America/New_York") => Zone::NewYork,
+        Some(_) | None => Zone::Moved(seconds_in(draft)),
     }
 }
 
@@ -129,7 +149,7 @@ fn seconds_in(draft: Draft<'_>) -> u32
     }
 }
 
-/// What a price counts.
+/// The unit of a price.
 fn unit_in(draft: Draft<'_>) -> PriceUnit
     ensures { result ≡ unit_in (doc_of draft.entry) }
 {
@@ -214,7 +234,7 @@ fn add_name(
     Ok(())
 }
 
-/// Adds what is replaced in symbols.
+/// Adds the bytes that are replaced in symbols.
 fn add_replaced(draft: Draft<'_>, replaced: &mut Vec<Replaced>) -> Result<(), AllocError> {
     for pair in draft.items("symbol", "replace").chunks(2) {
         if let [from, to] = pair {
@@ -226,7 +246,7 @@ fn add_replaced(draft: Draft<'_>, replaced: &mut Vec<Replaced>) -> Result<(), Al
     Ok(())
 }
 
-/// The byte that a text is, if it is one.
+/// The byte of a text that has only one.
 pub fn byte_in(value: &Value) -> Option<u8> {
     match value.as_str()?.as_bytes() {
         [byte] => Some(*byte),
@@ -234,7 +254,7 @@ pub fn byte_in(value: &Value) -> Option<u8> {
     }
 }
 
-/// The column at a key; an absent one is the empty text.
+/// The column at a key; the empty text if the key is absent.
 pub fn source_at(alloc: Global, draft: Draft<'_>, key: &str) -> Result<Source, AllocError>
     ensures { IfOk result (λ source. is_within source ≡ true) }
 {
@@ -244,21 +264,42 @@ pub fn source_at(alloc: Global, draft: Draft<'_>, key: &str) -> Result<Source, A
     }
 }
 
-/// The column that a value says: a number, a name, or a table with the text for it.
+/// The column that a value says: a number, a name, or a table with the text for it or with the bits that are read.
 pub(crate) fn source_of(alloc: Global, value: &Value) -> Result<Source, AllocError>
     ensures { IfOk result (λ source. is_within source ≡ true) }
 {
-    if let Some(number) = value.as_integer() {
-        return Ok(match u16::try_from(number) {
-            Ok(number) if 1 <= number && number <= MOST_COLUMNS => Source::Place(number - 1),
-            Ok(_) | Err(_) => Source::nothing(alloc),
-        });
+    if let Some(number) = number_of(value, MOST_COLUMNS) {
+        return Ok(Source::Place(number - 1));
     }
     if let Some(name) = value.as_str() {
         return Ok(Source::Named(Vec::from_slice(alloc, name.as_bytes())?));
     }
     match fixed_text(value) {
         Some(text) => Ok(Source::Fixed(Vec::from_slice(alloc, text.as_bytes())?)),
+        None => bits_of(alloc, value),
+    }
+}
+
+/// The column of which a value says that some bits are read.
+fn bits_of(alloc: Global, value: &Value) -> Result<Source, AllocError>
+    ensures { IfOk result (λ source. is_within source ≡ true) }
+{
+    let Some(members) = value.as_table() else {
+        return Ok(Source::nothing(alloc));
+    };
+    let (Some(column), Some(bits)) = (value_in(members, "column"), value_in(members, "bits")) else {
+        return Ok(Source::nothing(alloc));
+    };
+    let bits = match number_of(bits, MOST_BITS) {
+        Some(bits) => bits,
+        None => return Ok(Source::nothing(alloc)),
+    };
+    if let Some(name) = column.as_str() {
+        let name = Vec::from_slice(alloc, name.as_bytes())?;
+        return Ok(Source::NamedBits(name, bits));
+    }
+    match number_of(column, MOST_COLUMNS) {
+        Some(number) => Ok(Source::PlaceBits(number - 1, bits)),
         None => Ok(Source::nothing(alloc)),
     }
 }

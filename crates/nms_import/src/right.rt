@@ -5,7 +5,7 @@ ghost use Rattle.std.specs.Str.{bytes_eq};
 ghost use Rattle.toml.specs.View.{table_view, view};
 ghost use Rattle.nms_import.specs.Keys.{see};
 ghost use Rattle.nms_import.specs.Drafts.{doc_of};
-ghost use Rattle.nms_import.specs.Forms.{column_expected, has_dates, has_header, fixed_in, fixed_text, is_among, is_byte_between, is_column, is_count, is_delimiter, is_lot, is_number, is_right, is_size_unit, is_zone, zone_in};
+ghost use Rattle.nms_import.specs.Forms.{are_bits, are_bits_in, is_place, column_expected, has_dates, has_header, has_named, has_offset, fixed_in, fixed_text, is_among, is_byte_between, is_column, is_count, is_delimiter, is_lot, is_number, is_right, is_size_unit, is_zone, zone_in};
 
 use crate::draft::{Draft, value_in};
 use crate::keys::{A_NAME, A_NUMBER, Form, Row};
@@ -14,6 +14,9 @@ use toml::{Table, Value};
 
 /// The most columns of a file.
 pub(crate) const MOST_COLUMNS: u16 = 1000;
+
+/// The greatest number of bits that are read of a column.
+pub(crate) const MOST_BITS: u16 = 65_535;
 
 /// Whether a value that is no list is right at a key.
 pub(crate) fn is_right(draft: Draft<'_>, row: &Row, value: &Value) -> bool
@@ -27,9 +30,11 @@ pub(crate) fn is_right(draft: Draft<'_>, row: &Row, value: &Value) -> bool
         Form::Text => value.as_str().is_some(),
         Form::Count => is_count(draft, value),
         Form::Column | Form::Columns => is_column(has_header(draft), value),
+        Form::Instead => is_column(has_header(draft), value) && !has_named(draft, row),
         Form::SizeUnit => is_size_unit(draft, value),
         Form::Lot => is_lot(value),
         Form::Zone => has_dates(draft) && is_zone(value),
+        Form::ZoneName => has_dates(draft) && is_among(row.3.2, value) && !has_offset(draft),
         Form::Name | Form::Words | Form::Pairs | Form::Conditions | Form::Letters | Form::Others =>
             false,
     }
@@ -93,7 +98,8 @@ fn is_count(draft: Draft<'_>, value: &Value) -> bool
     is_number(MOST_COLUMNS, value) && draft.value("file", "end").is_some()
 }
 
-/// Whether the first line names the columns. A key `header` that is neither `true` nor `false` hides no fault of them.
+/// Whether the first line names the columns. If the key `header` is neither `true` nor `false`, faults of the columns are still
+/// found.
 pub(crate) fn has_header(draft: Draft<'_>) -> bool
     ensures { result ≡ has_header (doc_of draft.entry) }
 {
@@ -113,14 +119,57 @@ pub(crate) fn column_expected(draft: Draft<'_>) -> &'static str
     if has_header(draft) { A_NAME } else { A_NUMBER }
 }
 
-/// Whether a value says where a column is: its number, its name if there is a header, or a table with the text for it.
+/// Whether a value is a column: its place, or a table with the text for it, or with the bits that are read.
 fn is_column(header: bool, value: &Value) -> bool
     ensures { result ≡ is_column header (view value.now) }
 {
+    is_place(header, value) || fixed_text(value).is_some() || are_bits(header, value)
+}
+
+/// Whether a value says where a column is: its number, or its name if there is a header.
+fn is_place(header: bool, value: &Value) -> bool
+    ensures { result ≡ is_place header (view value.now) }
+{
     if value.as_str().is_some() {
-        return header;
+        header
+    } else {
+        is_number(MOST_COLUMNS, value)
     }
-    is_number(MOST_COLUMNS, value) || fixed_text(value).is_some()
+}
+
+/// Whether a value is a table `{ column = COLUMN, bits = NUMBER }`.
+fn are_bits(header: bool, value: &Value) -> bool
+    ensures { result ≡ are_bits header (view value.now) }
+{
+    match value.as_table() {
+        Some(members) => are_bits_in(header, members),
+        None => false,
+    }
+}
+
+#[tactic(auto, using(crate::proofs::NameFacts::names_length))]
+fn are_bits_in(header: bool, members: &Table) -> bool
+    ensures { result ≡ are_bits_in header (table_view members.now) }
+{
+    if members.len() != 2 {
+        return false;
+    }
+    match (value_in(members, "column"), value_in(members, "bits")) {
+        (Some(column), Some(bits)) => is_place(header, column) && is_number(MOST_BITS, bits),
+        (Some(_) | None, _) => false,
+    }
+}
+
+/// Whether a table has one of the keys that a key's words name.
+pub(crate) fn has_named(draft: Draft<'_>, row: &Row) -> bool
+    ensures { result ≡ has_named (doc_of draft.entry) (see row.now) }
+{
+    for word in row.3.2 {
+        if draft.value(row.0, word).is_some() {
+            return true;
+        }
+    }
+    false
 }
 
 /// The text of a table `{ fixed = "TEXT" }`.
@@ -146,14 +195,14 @@ fn fixed_in(members: &Table) -> Option<&str>
     }
 }
 
-/// Whether a value is a lot's shares, or `setup`: the setup's lot of each symbol.
+/// Whether a value is a number of shares for a lot, or `setup`, which means the setup's lot of each symbol.
 fn is_lot(value: &Value) -> bool
     ensures { result ≡ is_lot (view value.now) }
 {
     is_number(MOST_LOT, value) || value.as_str() == Some("setup")
 }
 
-/// Whether a value is the unit of sizes. `shares` has no lot; one that is none is its own fault.
+/// Whether a value is the unit of sizes. `shares` may not have a lot. A lot with a wrong value is a separate fault.
 fn is_size_unit(draft: Draft<'_>, value: &Value) -> bool
     ensures { result ≡ is_size_unit (doc_of draft.entry) (view value.now) }
 {
@@ -166,17 +215,24 @@ fn is_size_unit(draft: Draft<'_>, value: &Value) -> bool
     }
 }
 
-/// Whether times have a date, and so a zone. A form that is none hides no fault of the zone.
+/// Whether times have a date, and so a zone. If the form is wrong, a fault of the zone is still found.
 fn has_dates(draft: Draft<'_>) -> bool
     ensures { result ≡ has_dates (doc_of draft.entry) }
 {
     match draft.value("time", "form") {
         Some(value) => match value.as_str() {
-            Some(form) => form != "HHMMSSn" && form != "seconds",
+            Some(form) => form != "HHMMSSn" && form != "HH:MM:SS" && form != "seconds",
             None => true,
         },
         None => false,
     }
+}
+
+/// Whether a document has an offset of times.
+fn has_offset(draft: Draft<'_>) -> bool
+    ensures { result ≡ has_offset (doc_of draft.entry) }
+{
+    draft.value("time", "zone_offset").is_some()
 }
 
 /// Whether a value is a zone.
@@ -189,7 +245,7 @@ fn is_zone(value: &Value) -> bool
     }
 }
 
-/// The seconds that a sign and HHMM move a time on, over midnight: 68,400 for `-0500`.
+/// The seconds by which a sign and HHMM move a time on, across midnight: 68,400 for `-0500`.
 pub(crate) fn zone_in(text: &[u8]) -> Option<u32>
     ensures zone { result ≡ zone_in text.now }
     ensures day { IfSome result (λ zone. zone < 86400) }

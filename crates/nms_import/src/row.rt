@@ -16,8 +16,8 @@ use nms_lines::field_at;
 use nms_quote::{Change, Part, QState, Roster, Side, SideQuote, Sym};
 use std::alloc::AllocError;
 
-/// What a row makes: a change with its time, or the first cause why it makes none. `scratch` is room that a caller keeps
-/// from row to row.
+/// The change of a row with its time, or the first cause why the row makes none. `scratch` is room that a caller keeps from row
+/// to row.
 pub fn read_row(
     columns: &Columns,
     meanings: &Meanings,
@@ -32,7 +32,7 @@ pub fn read_row(
     Ok(entry_with(columns, meanings, roster, row, sym))
 }
 
-/// The symbol that a text names. What the mapping makes of the text is left in `scratch`.
+/// The symbol that a text names. `scratch` gets the text after the mapping's replacements.
 pub fn symbol_in(
     meanings: &Meanings,
     roster: &Roster,
@@ -47,7 +47,7 @@ pub fn symbol_in(
     Ok(roster.find_sym(scratch))
 }
 
-/// What a row leaves that makes no change of its own, for a cause. `last` is the time of the last change.
+/// The change that a row leaves if it makes none, by the cause. `last` is the time of the last change.
 pub fn left_in(
     columns: &Columns,
     meanings: &Meanings,
@@ -63,7 +63,7 @@ pub fn left_in(
     Ok(left_with(columns, meanings, roster, row, cause, sym, last))
 }
 
-/// What a row leaves that makes no change of its own, for a cause. Its symbol was looked for on the roster by `symbol_in`, and
+/// The change that a row leaves if it makes none, by the cause. Its symbol was looked up on the roster by `symbol_in`, and
 /// `last` is the time of the last change.
 pub fn left_with(
     columns: &Columns,
@@ -84,8 +84,8 @@ pub fn left_with(
     }
 }
 
-/// The withdrawal of what the row's participant shows of a symbol, which was looked for on the roster by `symbol_in`. `last`
-/// is the time of the last change.
+/// The withdrawal of what the row's participant shows of a symbol, which was looked up on the roster by `symbol_in`. `last` is
+/// the time of the last change.
 fn withdrawal_with(
     columns: &Columns,
     meanings: &Meanings,
@@ -110,7 +110,7 @@ fn withdrawal_with(
     }
 }
 
-/// A participant shows nothing of a symbol.
+/// The change after which a participant shows nothing of a symbol.
 fn withdrawal(time: u64, part: Part, sym: Sym) -> Entry
     ensures { result ≡ withdrawal time part sym }
 {
@@ -127,7 +127,7 @@ fn withdrawal(time: u64, part: Part, sym: Sym) -> Entry
     }
 }
 
-/// A text with each byte that is replaced, in place of what `out` had.
+/// Replaces bytes of a text by the given pairs. The result overwrites `out`.
 fn replace(pairs: &[Replaced], text: &[u8], out: &mut Vec<u8>) -> Result<(), AllocError>
     ensures { OnOk result (out.new.items ≡ map (replaced pairs.now) text.now) }
 {
@@ -138,7 +138,7 @@ fn replace(pairs: &[Replaced], text: &[u8], out: &mut Vec<u8>) -> Result<(), All
     Ok(())
 }
 
-/// What stands in a byte's place.
+/// The byte that replaces a byte.
 fn replaced(pairs: &[Replaced], c: u8) -> u8
     ensures { result ≡ replaced pairs.now c }
 {
@@ -150,7 +150,7 @@ fn replaced(pairs: &[Replaced], c: u8) -> u8
     c
 }
 
-/// What a row makes. Its symbol was looked for on the roster by `symbol_in`.
+/// The entry that a row makes. Its symbol was looked up on the roster by `symbol_in`.
 pub fn entry_with(
     columns: &Columns,
     meanings: &Meanings,
@@ -206,7 +206,7 @@ fn participant_in(meanings: &Meanings, roster: &Roster, word: &[u8]) -> Result<P
     }
 }
 
-/// Why a row makes no change whose symbol is not on the roster.
+/// Why a row whose symbol is not on the roster makes no change.
 fn no_symbol(meanings: &Meanings) -> Cause
     ensures { result ≡ no_symbol meanings.now }
 {
@@ -227,7 +227,7 @@ fn meaning_in(meanings: &Meanings, first: &[u8], second: &[u8]) -> Result<Meanin
     }
 }
 
-/// The state of both sides, `None` for no quotation.
+/// The state of both sides; `None` for no quotation.
 fn state_of(meanings: &Meanings, meaning: Meaning) -> Result<Option<QState>, Cause>
     ensures { result ≡ state_of meanings.now meaning }
 {
@@ -238,7 +238,7 @@ fn state_of(meanings: &Meanings, meaning: Meaning) -> Result<Option<QState>, Cau
     }
 }
 
-/// The state of both sides of a row of which one side alone is manual.
+/// The state of both sides, if the row's condition makes only one side manual.
 fn half_state(half: Half, side: Side) -> Result<Option<QState>, Cause>
     ensures { result ≡ half_state half side }
 {
@@ -249,7 +249,7 @@ fn half_state(half: Half, side: Side) -> Result<Option<QState>, Cause>
     }
 }
 
-/// Whether one side alone is manual.
+/// Whether only one side is manual.
 fn is_one_sided(meaning: Meaning) -> bool
     ensures { result ≡ is_one_sided meaning }
 {
@@ -259,7 +259,7 @@ fn is_one_sided(meaning: Meaning) -> bool
     }
 }
 
-/// The shares of a unit of size: those that the mapping says, or the round lot that the setup gives the symbol.
+/// The number of shares in a unit of size: what the mapping says, or the round lot that the setup gives the symbol.
 fn unit_for(meanings: &Meanings, roster: &Roster, sym: Sym) -> u32
     ensures { result ≡ unit_for meanings.now roster.now sym }
 {
@@ -272,7 +272,7 @@ fn unit_for(meanings: &Meanings, roster: &Roster, sym: Sym) -> u32
     }
 }
 
-/// The change of a row whose sides are in this state; `None` is no quotation. A size counts `unit` shares.
+/// The change of a row whose sides are in this state; `None` means no quotation. A size counts units of `unit` shares.
 fn change_in(
     columns: &Columns,
     meanings: &Meanings,

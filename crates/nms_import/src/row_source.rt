@@ -1,7 +1,8 @@
-//! A source that passes a file's bytes on as they come, and knows the line on which the row being read begins.
+//! A source that passes a file's bytes on as they come, and knows the line on which the present row begins.
 //!
-//! It keeps the bytes that it passed on last. In a file without carriage returns the reader of rows counts lines well, but for
-//! blank lines before a row. So only where one of the two is are lines counted again, and each byte once.
+//! It keeps the bytes that it passed on last. In a file without carriage returns the reader of rows counts lines well, except
+//! if blank lines come before a row. So lines are counted again only if a file has one of the two, and each byte is counted
+//! once.
 ghost use Rattle.std.specs.Prelude.{◌≡◌};
 ghost use Rattle.std.specs.Io.{ReadsAtMost};
 ghost use Rattle.std.specs.Io.KnownBytes.{ReadConsumes};
@@ -12,20 +13,21 @@ use std::cell::Cell;
 use std::io;
 use std::io::Read;
 
-/// What may begin a text without being part of its first row.
+/// The byte order mark, which may come before the first row and is no part of it.
 const MARK: [u8; 3] = [0xEF, 0xBB, 0xBF];
 
 /// How far the lines of a file were counted. A line feed ends a line, and so does a carriage return, with the line feed
 /// after it if there is one.
 #[derive(Clone, Copy)]
 struct LineCount {
-    /// The line of the next byte, from 1.
+    /// The line of the next byte, counted from 1.
     line: u64,
     after_return: bool,
 }
 
 impl LineCount {
-    /// After a text, which may have carriage returns if the file has; none if there are more lines than a number counts.
+    /// The count after a text, which may have carriage returns if the file has any. None if there are more lines than a number
+    /// counts.
     fn after(self, text: &[u8], has_returns: bool) -> Option<LineCount> {
         if has_returns {
             return self.after_returns(text);
@@ -50,27 +52,27 @@ impl LineCount {
     }
 }
 
-/// The bytes passed on last, and the lines before them.
+/// The bytes that were passed on last, and the lines before them.
 #[derive(Drop)]
 struct RowLines {
     last: Vec<u8>,
-    /// How many bytes were passed on before those.
+    /// How many bytes were passed on before the kept ones.
     passed: u64,
     /// A place among the kept bytes, and the lines before it.
     counted: Cell<usize>,
     lines: Cell<LineCount>,
-    /// Whether a carriage return was passed on.
+    /// Whether any carriage return was passed on.
     has_returns: bool,
-    /// How many bytes at the start of the file are those of the mark.
+    /// How many bytes of the mark are at the start of the file.
     marked: usize,
-    /// The line of the row being read, if it begins before the kept bytes.
+    /// The line of the present row, if it begins before the kept bytes.
     begun: Option<u64>,
-    /// How many bytes were passed on up to the end of the row before: the owner of the reader sets it.
+    /// How many bytes were passed on up to the end of the row before. The owner of the reader sets it.
     ended: Cell<u64>,
 }
 
 impl RowLines {
-    /// Of a file of which nothing was read yet.
+    /// The lines of a file of which nothing was read yet.
     fn new(alloc: Global) -> RowLines {
         RowLines {
             last: Vec::new(alloc),
@@ -87,8 +89,8 @@ impl RowLines {
         }
     }
 
-    /// The line on which the row that was read last begins, given the line on which the row before it ended, by line feeds.
-    /// It is 0 if there are more lines than a number counts.
+    /// The line on which the last row that was read begins. It is found from the line on which the row before it ended, by line
+    /// feeds. It is 0 if there are more lines than a number counts.
     fn line(&self, by_feeds: u64) -> u64 {
         if self.follows_at_once() {
             by_feeds
@@ -109,11 +111,11 @@ impl RowLines {
         }
     }
 
-    /// The line of the row being read, if one of its bytes was passed on.
+    /// The line of the present row, if one of its bytes was passed on.
     fn line_begun(&self) -> Option<u64> {
         let ended = self.ended.get();
         if ended == 0 && 0 < self.marked && self.marked < MARK.len() {
-            // A part of the mark is no mark, but the first row's.
+            // A part of the mark is no mark, but belongs to the first row.
             return Some(1);
         }
         let from = if self.passed <= ended {
@@ -136,8 +138,8 @@ impl RowLines {
         Some(lines)
     }
 
-    /// The place among the kept bytes of the first that belongs to a row, from a place on. Line ends between rows and the
-    /// mark belong to none.
+    /// The place of the first kept byte that belongs to a row, from a place on. Line ends between rows and the mark belong to
+    /// no row.
     fn start_from(&self, from: usize) -> Option<usize> {
         let mark = MARK.len() as u64;
         let from = if self.marked == MARK.len() && self.passed < mark {
@@ -153,8 +155,8 @@ impl RowLines {
         None
     }
 
-    /// Counts the kept bytes and forgets them, because more are requested; none if there are more bytes or lines than a
-    /// number counts.
+    /// Counts the kept bytes and drops them, because more are requested. None if there are more bytes or lines than a number
+    /// counts.
     fn forget(&mut self) -> Option<()> {
         self.begun = self.line_begun();
         self.count_to(self.last.len())?;
@@ -164,14 +166,14 @@ impl RowLines {
         Some(())
     }
 
-    /// Keeps bytes, for which there is room.
+    /// Keeps bytes for which there is room.
     fn keep(&mut self, bytes: &[u8]) -> Result<(), AllocError> {
         self.has_returns = self.has_returns || memchr(b'\r', bytes).is_some();
         self.note_mark(bytes);
         self.last.extend_from_slice(bytes)
     }
 
-    /// Notes which of the next bytes of the file are of the mark: the reader of rows asks for those one by one.
+    /// Notes which of the next bytes of the file belong to the mark. The reader of rows asks for these one by one.
     fn note_mark(&mut self, bytes: &[u8]) {
         if self.marked >= MARK.len() || self.passed != self.marked as u64 {
             return;
@@ -188,7 +190,7 @@ impl RowLines {
     }
 }
 
-/// A source of rows, with the line on which the row being read begins.
+/// A source of rows, with the line on which the present row begins.
 #[derive(Drop)]
 pub struct RowSource<R> {
     source: R,
@@ -197,7 +199,7 @@ pub struct RowSource<R> {
 }
 
 impl<R> RowSource<R> {
-    /// Over a source, of which nothing was read yet.
+    /// A source of rows over a source of bytes of which nothing was read yet.
     pub(crate) fn new(alloc: Global, source: R) -> RowSource<R>
         ensures { result.source ≡ source }
     {
@@ -208,7 +210,8 @@ impl<R> RowSource<R> {
         }
     }
 
-    /// The line on which the row that was read last begins, given the line on which the one before it ended, by line feeds.
+    /// The line on which the last row that was read begins. It is found from the line on which the row before it ended, by line
+    /// feeds.
     pub(crate) fn line(&self, by_feeds: u64) -> u64 {
         self.lines.line(by_feeds)
     }
@@ -218,12 +221,12 @@ impl<R> RowSource<R> {
         self.source
     }
 
-    /// The next row begins after n bytes.
+    /// Notes that the next row begins after n bytes.
     pub(crate) fn begin_row(&self, ended: u64) {
         self.lines.ended.set(ended);
     }
 
-    /// Whether there was no memory for the bytes passed on.
+    /// Whether there was no memory for the bytes that were passed on.
     pub(crate) fn is_out_of_memory(&self) -> bool {
         self.is_out_of_memory
     }
@@ -239,7 +242,7 @@ impl<R: Read> Read for RowSource<R> {
         ensures bytes { ReadConsumes (unread R.remaining self.old) (unread R.remaining self.new) result buf.new }
     {
         if self.lines.forget().is_none() {
-            // No source has so many bytes.
+            // This never happens, because no source has that number of bytes.
             return Err(io::Error::from(io::ErrorKind::InvalidData));
         }
         if self.lines.last.reserve(buf.len()).is_err() {

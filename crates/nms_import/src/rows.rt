@@ -1,4 +1,4 @@
-//! The rows of a file, one after another: `specs/Rows`.
+//! Reading the rows of a file, one after another: `specs/Rows`.
 ghost use Rattle.std.specs.Prelude.{◌≡◌, ℕ, ◌++◌, ◌∷◌, [], List, Option, Bool, true, false, Ok};
 ghost use Rattle.csv.specs.Records.{fields_of};
 ghost use Rattle.csv.specs.declared.parser.Config.{Config};
@@ -30,7 +30,7 @@ pub fn open_rows<R: Read>(
         .from_reader(alloc, rows)
 }
 
-/// The line on which the row that was read last begins, as an editor counts lines, from 1. It is 0 before the first row.
+/// The line on which the last row that was read begins, as an editor counts lines, from 1. It is 0 before the first row.
 pub fn line_of<R: Read>(reader: &Reader<RowSource<R>>, row: &ByteRecord) -> u64 {
     match row.position() {
         Some(position) => reader.get_ref().line(position.line()),
@@ -38,7 +38,7 @@ pub fn line_of<R: Read>(reader: &Reader<RowSource<R>>, row: &ByteRecord) -> u64 
     }
 }
 
-/// Reads the next row, and returns whether there was one. After `ReadFault` or `NoMemory` there is none any more.
+/// Reads the next row, and returns whether there was one. After `ReadFault` or `NoMemory` there are no further rows.
 pub fn next_row<R: Read>(
     reader: &mut Reader<RowSource<R>>,
     row: &mut ByteRecord,

@@ -10,13 +10,13 @@ pub const MOST_ROWS: u64 = 1_000_000_000_000;
 /// How many rows had each outcome.
 #[derive(Clone, Copy)]
 pub struct Tally {
-    /// Rows that made a change, but for the next ones.
+    /// Rows that made a change, except the `halves`.
     pub wholes: u64,
-    /// Rows that made a change, and of which one side alone is manual: no record says that.
+    /// Rows that made a change, though only one side is manual, which no record says.
     pub halves: u64,
     /// Refused: fewer columns than the mapping names.
     pub too_few_columns: u64,
-    /// Refused: no time of day.
+    /// Refused: a text that is no time of day.
     pub bad_time: u64,
     /// Refused: a participant that is not on the roster.
     pub unknown_participant: u64,
@@ -24,15 +24,15 @@ pub struct Tally {
     pub unknown_symbol: u64,
     /// Refused: a condition that the mapping does not list.
     pub unknown_condition: u64,
-    /// Refused: a condition that makes one side alone manual.
+    /// Refused: a condition that makes only one side manual.
     pub one_sided: u64,
-    /// Refused: a price that is none.
+    /// Refused: a text that is no price.
     pub bad_price: u64,
-    /// Refused: a size that is none.
+    /// Refused: a text that is no size.
     pub bad_size: u64,
     /// Refused: shares without a price.
     pub half_side: u64,
-    /// Refused: a symbol that comes back after its end, if the rows are sorted by symbol.
+    /// Refused: a symbol that comes again after its end, if the rows are sorted by symbol.
     pub returned: u64,
     /// Skipped: the last line of a file.
     pub trailer: u64,
@@ -45,18 +45,18 @@ pub struct Tally {
 /// The sums of the outcomes.
 #[derive(Clone, Copy)]
 pub struct Sums {
-    /// All rows.
+    /// The number of all rows.
     pub rows: u64,
-    /// Those that made a change.
+    /// The number of rows that made a change.
     pub changes: u64,
-    /// Those that were refused.
+    /// The number of rows that were refused.
     pub refused: u64,
-    /// Those that were skipped.
+    /// The number of rows that were skipped.
     pub skipped: u64,
 }
 
 impl Tally {
-    /// No rows.
+    /// The counts before any row.
     pub fn none() -> Tally
         ensures rows { rows_in result ≡ 0 }
         ensures changes { changes_in result ≡ 0 }
@@ -95,7 +95,7 @@ impl Tally {
         }
     }
 
-    /// Counts a row that made none.
+    /// Counts a row that made no change, for a cause.
     pub fn count_cause(&mut self, cause: Cause)
         requires { rows_in self.old < 1000000000000 }
         ensures rows { rows_in self.new ≡ rows_in self.old + 1 }
@@ -118,7 +118,7 @@ impl Tally {
         }
     }
 
-    /// Counts a row whose symbol came back after its end.
+    /// Counts a row whose symbol came again after its end.
     pub fn count_returned(&mut self)
         requires { rows_in self.old < 1000000000000 }
         ensures rows { rows_in self.new ≡ rows_in self.old + 1 }
@@ -129,8 +129,7 @@ impl Tally {
         self.returned += 1;
     }
 
-    /// The sums: all rows are those that made a change, those that were refused and those that were skipped. `None` comes
-    /// only of more than 2^64 - 1 rows.
+    /// The sums: each row made a change, was refused or was skipped. `None` comes only if there are more than 2^64 - 1 rows.
     pub fn sums(&self) -> Option<Sums>
         ensures rows { IfSome result (λ sums. sums.rows ≡ rows_in self.now) }
         ensures parts { IfSome result (λ sums. (sums.changes ≡ changes_in self.now) × (sums.refused ≡ refused_in self.now) × (sums.skipped ≡ skipped_in self.now)) }
@@ -160,7 +159,7 @@ impl Tally {
     }
 }
 
-/// The sum of numbers. `None` comes only of a sum above 2^64 - 1.
+/// The sum of numbers. `None` comes only if it is above 2^64 - 1.
 pub fn sum_of(numbers: &[u64]) -> Option<u64>
     ensures { IfSome result (λ total. total ≡ sum numbers.now) }
 {

@@ -1,28 +1,63 @@
-//! What is printed of an import: the rows that make no change, the counts, and the symbols (`specs/Telling`).
+//! What is printed about an import: the rows that make no change, the counts, and the symbols (`specs/Telling`).
 ghost use Rattle.std.specs.Prelude.{◌≡◌, true};
 ghost use Rattle.std.specs.List.{list_all};
-ghost use Rattle.nms_show.specs.Plain.{is_own_plain, is_plain};
+ghost use Rattle.nms_show.specs.Plain.{is_own_plain, is_plain, is_plain_member};
 ghost use Rattle.nms_show.specs.Safe.{IsSafe};
 ghost use Rattle.nms_show.specs.Written.{AddsPart, Writes};
+ghost use Rattle.nms_import.specs.Telling.{most_of};
 
 use crate::MOST_TOLD;
 use crate::cause::Cause;
 use crate::column::{Column, Columns};
 use crate::import_fault::ImportFault;
 use crate::left::Left;
-use crate::meanings::{Half, Meanings};
+use crate::meanings::{Half, Meanings, PriceUnit, TimeForm, Zone};
 use crate::noting::{Notes, Span};
-use crate::tally::{Sums, Tally};
+use crate::tally::{MOST_ROWS, Sums, Tally};
 use csv::ByteRecord;
 use nms_quote::{Roster, Side, Sym};
-use nms_show::{Form, Item, ShowFault, write_line};
+use nms_show::{Form, Item, ShowFault, write_line, write_object};
+use std::alloc::Global;
 use std::io::Write;
+
+/// How rows are shown of a file whose mapping is known.
+#[derive(Clone, Copy)]
+pub struct Telling {
+    /// The allocator.
+    pub alloc: Global,
+    /// As lines for people, or as JSON.
+    pub form: Form,
+    /// How the mapping says that times are written.
+    pub time_form: TimeForm,
+    /// How it says that they are moved.
+    pub zone: Zone,
+    /// What the mapping says that prices count.
+    pub price_unit: PriceUnit,
+}
+
+impl Telling {
+    ghost use Rattle.std.specs.Prelude.{◌≡◌};
+
+    /// In a form, of a file whose texts have these meanings.
+    pub fn new(alloc: Global, form: Form, meanings: &Meanings) -> Telling
+        ensures { result.form ≡ form }
+    {
+        Telling {
+            alloc,
+            form,
+            time_form: meanings.time_form,
+            zone: meanings.zone,
+            price_unit: meanings.price_unit,
+        }
+    }
+}
 
 /// Where rows that make no change are shown.
 #[derive(Drop)]
 pub struct Told<'a, E> {
-    /// Where they are shown.
+    /// The writer on which they are shown.
     pub errors: E,
+    telling: Telling,
     file: &'a str,
     line: u64,
     left: u64,
@@ -32,24 +67,24 @@ impl<'a, E: Write> Told<'a, E> {
     ghost use Rattle.std.specs.Prelude.{◌≡◌, ◌-◌, []};
     ghost use Rattle.nms_show.specs.Safe.{IsSafe};
     ghost use Rattle.nms_show.specs.Written.{AddsPart};
-    ghost use Rattle.nms_import.specs.Telling.{file_of, left_after, left_of};
-    ghost use Rattle.nms_import.specs.declared.TheConstants.{MOST_TOLD};
+    ghost use Rattle.nms_import.specs.Telling.{file_of, left_after, left_of, most_of};
 
-    /// On a writer, in no file yet.
-    pub fn new(errors: E) -> Told<'a, E>
+    /// On a writer, in no file yet. As JSON all refused rows are shown, else the first 100 that make no change.
+    pub fn new(telling: Telling, errors: E) -> Told<'a, E>
         ensures writer { result.errors ≡ errors }
         ensures file { file_of result ≡ [] }
-        ensures left { left_of result ≡ MOST_TOLD }
+        ensures left { left_of result ≡ most_of telling }
     {
         Told {
             errors,
+            telling,
             file: "",
             line: 0,
-            left: MOST_TOLD,
+            left: most_of(telling),
         }
     }
 
-    /// Goes on with a file.
+    /// Notes that the next rows are those of a file.
     pub fn enter(&mut self, file: &'a str)
         ensures writer { self.new.errors ≡ self.old.errors }
         ensures file { file_of self.new ≡ file.now }
@@ -58,7 +93,7 @@ impl<'a, E: Write> Told<'a, E> {
         self.file = file;
     }
 
-    /// Goes on with the row that begins on a line, from 1.
+    /// Notes that the present row begins on a line, counted from 1.
     pub fn at(&mut self, line: u64)
         ensures writer { self.new.errors ≡ self.old.errors }
         ensures file { file_of self.new ≡ file_of self.old }
@@ -67,16 +102,18 @@ impl<'a, E: Write> Told<'a, E> {
         self.line = line;
     }
 
-    /// Where the row begins.
+    /// The place at which the present row begins.
     fn place(&self) -> RowPlace<'a> {
         RowPlace {
             file: self.file,
             line: self.line,
+            alloc: self.telling.alloc,
+            form: self.telling.form,
         }
     }
 
-    /// Shows a row that makes no change: its file, line, column and text, and the cause. The first 100 are shown. What
-    /// the writer does not take is dropped: the counts have each row.
+    /// Shows a row that makes no change: its file, line, column and text, and the cause. As JSON a row that is skipped is not
+    /// shown. What the writer does not take is dropped: the counts have each row.
     pub fn tell(&mut self, columns: &Columns, row: &ByteRecord, cause: Cause)
         ensures safe { AddsPart IsSafe (E.contents self.old.errors) (E.contents self.new.errors) }
         ensures few { left_of self.old ≡ 0 → self.new ≡ self.old }
@@ -87,18 +124,21 @@ impl<'a, E: Write> Told<'a, E> {
             return;
         }
         self.left -= 1;
+        if cause.skips() && self.telling.form.is_json() {
+            return;
+        }
         let place = self.place();
-        show_row(
+        let _ = show_row(
             &mut self.errors,
             place,
             row,
             column_of(columns, cause),
             outcome_of(cause),
-            sentence_of(cause),
+            sentence_of(self.telling, cause),
         );
     }
 
-    /// Shows a row whose symbol came back after its end, as `tell` shows others.
+    /// Shows a row whose symbol came again after its end, as `tell` shows others.
     pub fn tell_returned(&mut self, columns: &Columns, row: &ByteRecord)
         ensures safe { AddsPart IsSafe (E.contents self.old.errors) (E.contents self.new.errors) }
         ensures few { left_of self.old ≡ 0 → self.new ≡ self.old }
@@ -110,17 +150,17 @@ impl<'a, E: Write> Told<'a, E> {
         }
         self.left -= 1;
         let place = self.place();
-        show_row(
+        let _ = show_row(
             &mut self.errors,
             place,
             row,
             Some(&columns.symbol),
-            "refused: ",
+            "refused",
             "a symbol that comes back after its end",
         );
     }
 
-    /// Shows a row whose symbol has not the form of one, as `tell` shows others.
+    /// Shows a row whose symbol does not have the form of one, as `tell` shows others.
     pub fn tell_unformed(&mut self, columns: &Columns, row: &ByteRecord, cause: Cause)
         ensures safe { AddsPart IsSafe (E.contents self.old.errors) (E.contents self.new.errors) }
         ensures few { left_of self.old ≡ 0 → self.new ≡ self.old }
@@ -131,8 +171,11 @@ impl<'a, E: Write> Told<'a, E> {
             return;
         }
         self.left -= 1;
+        if cause.skips() && self.telling.form.is_json() {
+            return;
+        }
         let place = self.place();
-        show_row(
+        let _ = show_row(
             &mut self.errors,
             place,
             row,
@@ -142,7 +185,7 @@ impl<'a, E: Write> Told<'a, E> {
         );
     }
 
-    /// Shows the first row whose time falls.
+    /// Shows the first row whose time is before an earlier one.
     pub fn tell_fall(&mut self, columns: &Columns, row: &ByteRecord)
         ensures safe { AddsPart IsSafe (E.contents self.old.errors) (E.contents self.new.errors) }
         ensures file { file_of self.new ≡ file_of self.old }
@@ -150,7 +193,7 @@ impl<'a, E: Write> Told<'a, E> {
     {
         let sentence = "the first time that is before an earlier one";
         let place = self.place();
-        show_row(
+        let _ = show_row(
             &mut self.errors,
             place,
             row,
@@ -161,16 +204,20 @@ impl<'a, E: Write> Told<'a, E> {
     }
 }
 
-/// Where a row begins.
+/// The place at which a row begins.
 #[derive(Clone, Copy)]
 pub struct RowPlace<'a> {
     /// The name of its file.
     pub file: &'a str,
-    /// Its line, from 1.
+    /// Its line, counted from 1.
     pub line: u64,
+    /// The allocator.
+    pub alloc: Global,
+    /// As a line for people, or as JSON.
+    pub form: Form,
 }
 
-/// Shows a row: its file, line, column and text, and what is said of it. What the writer does not take is dropped.
+/// Shows a row: its file, line, column and text, what becomes of it, if that is more than a remark, and what is said of it.
 pub fn show_row<'x, E: Write>(
     errors: &mut E,
     place: RowPlace<'x>,
@@ -178,17 +225,29 @@ pub fn show_row<'x, E: Write>(
     column: Option<&'x Column>,
     what: &'x str,
     sentence: &'x str,
-)
+) -> Result<(), ShowFault>
     ensures safe { is_plain what.now ≡ true → is_plain sentence.now ≡ true → AddsPart IsSafe (E.contents errors.old) (E.contents errors.new) }
 {
     let at = match column {
-        Some(Column::At(place)) if *place < row.len() => (*place + 1) as u64,
-        Some(Column::At(_) | Column::Fixed(_)) | None => 0,
+        Some(Column::At(place) | Column::Bits(place, _)) if *place < row.len() => (*place
+            + 1) as u64,
+        Some(Column::At(_) | Column::Bits(_, _) | Column::Fixed(_)) | None => 0,
     };
     let text = match column {
         Some(column) => column.text(row),
         None => b"".as_slice(),
     };
+    if place.form.is_json() {
+        let members = [
+            ("what", Item::Text(what_or_remark(what))),
+            ("file", Item::Bytes(place.file.as_bytes())),
+            ("line", Item::Number(place.line)),
+            ("column", item_of_place(at)),
+            ("cause", Item::Text(sentence)),
+            ("text", Item::Bytes(text)),
+        ];
+        return object(place.alloc, errors, &members);
+    }
     let items = [
         Item::Bytes(place.file.as_bytes()),
         Item::Text(":"),
@@ -197,22 +256,59 @@ pub fn show_row<'x, E: Write>(
         item_of_place(at),
         Item::Text(": "),
         Item::Text(what),
+        Item::Text(if_any(what, ": ")),
         Item::Text(sentence),
         Item::Text(if_placed(at, ": `")),
         Item::Bytes(text),
         Item::Text(if_placed(at, "`")),
     ];
-    let _ = line(errors, &items);
+    write_items(errors, &items)
 }
 
-/// A text, or none if there is no place.
+/// Writes a JSON object.
+fn object<W: Write>(
+    alloc: Global,
+    out: &mut W,
+    members: &[(&str, Item<'_>)],
+) -> Result<(), ShowFault>
+    ensures { list_all is_plain_member members.now ≡ true → Writes IsSafe (W.contents out.old) (W.contents out.new) result }
+{
+    write_object(alloc, out, members)
+}
+
+/// What becomes of a row, or that something is remarked of it.
+fn what_or_remark(what: &str) -> &str
+    ensures { is_plain what.now ≡ true → is_plain result.now ≡ true }
+{
+    if what.is_empty() { "remark" } else { what }
+}
+
+/// A text, or none if another one is empty.
+fn if_any(other: &str, text: &'static str) -> &'static str
+    ensures { is_plain text.now ≡ true → is_plain result.now ≡ true }
+{
+    if other.is_empty() { "" } else { text }
+}
+
+/// How many rows are shown of all files together.
+pub fn most_of(telling: Telling) -> u64
+    ensures { result ≡ most_of telling }
+{
+    if telling.form.is_json() {
+        MOST_ROWS
+    } else {
+        MOST_TOLD
+    }
+}
+
+/// The text, or an empty one if there is no place.
 fn if_placed(place: u64, text: &'static str) -> &'static str
     ensures { is_plain text.now ≡ true → is_plain result.now ≡ true }
 {
     if place == 0 { "" } else { text }
 }
 
-/// A place, or nothing if there is none.
+/// The item for a place, or an empty one if there is none.
 fn item_of_place(place: u64) -> Item<'static>
     ensures { is_own_plain result ≡ true }
 {
@@ -224,7 +320,7 @@ fn item_of_place(place: u64) -> Item<'static>
 }
 
 /// The column that a cause is about.
-fn column_of(columns: &Columns, cause: Cause) -> Option<&Column> {
+pub fn column_of(columns: &Columns, cause: Cause) -> Option<&Column> {
     match cause {
         Cause::TooFewColumns | Cause::Trailer => None,
         Cause::BadTime => Some(&columns.time),
@@ -239,31 +335,87 @@ fn column_of(columns: &Columns, cause: Cause) -> Option<&Column> {
     }
 }
 
-/// What becomes of the row.
+/// The word for what is done with the row.
 fn outcome_of(cause: Cause) -> &'static str
     ensures { is_plain result.now ≡ true }
 {
-    if cause.skips() {
-        "skipped: "
-    } else {
-        "refused: "
+    if cause.skips() { "skipped" } else { "refused" }
+}
+
+/// What a time is that is none of a form and a zone.
+pub fn no_time(form: TimeForm, zone: Zone) -> &'static str
+    ensures { is_plain result.now ≡ true }
+{
+    match zone {
+        Zone::Moved(_) => no_time_of(form),
+        Zone::NewYork => no_dated_time(form),
+    }
+}
+
+/// What a time of a form is that is none.
+fn no_time_of(form: TimeForm) -> &'static str
+    ensures { is_plain result.now ≡ true }
+{
+    match form {
+        TimeForm::Clock => "no time of day as HHMMSS with up to nine digits after it",
+        TimeForm::Colons => "no time of day as HH:MM:SS with up to nine decimals",
+        TimeForm::Seconds => "no time of day as seconds with up to nine decimals",
+        TimeForm::UnixNanoseconds => "no nanoseconds since 1970",
+        TimeForm::UnixMicroseconds => "no microseconds since 1970",
+        TimeForm::UnixMilliseconds => "no milliseconds since 1970",
+        TimeForm::Iso => "no date and time as 2024-01-02T09:30:00",
+    }
+}
+
+/// The same of the years whose time in New York is read. A form without a date has none.
+fn no_dated_time(form: TimeForm) -> &'static str
+    ensures { is_plain result.now ≡ true }
+{
+    match form {
+        TimeForm::Clock | TimeForm::Colons | TimeForm::Seconds => "no date",
+        TimeForm::UnixNanoseconds => "no nanoseconds since 1970 of a year from 2007 to 2099",
+        TimeForm::UnixMicroseconds => "no microseconds since 1970 of a year from 2007 to 2099",
+        TimeForm::UnixMilliseconds => "no milliseconds since 1970 of a year from 2007 to 2099",
+        TimeForm::Iso => "no date and time as 2024-01-02T09:30:00 of a year from 2007 to 2099",
+    }
+}
+
+/// What a bid is that has no price in a unit.
+fn no_bid(unit: PriceUnit) -> &'static str
+    ensures { is_plain result.now ≡ true }
+{
+    match unit {
+        PriceUnit::Dollars => "no price of the bid in dollars with at most four decimals",
+        PriceUnit::TenThousandths => "no price of the bid in 1e-4 dollar",
+        PriceUnit::Nanodollars => "no price of the bid in 1e-9 dollar, which ends in 00000",
+    }
+}
+
+/// What an offer is that has no price in a unit.
+fn no_offer(unit: PriceUnit) -> &'static str
+    ensures { is_plain result.now ≡ true }
+{
+    match unit {
+        PriceUnit::Dollars => "no price of the offer in dollars with at most four decimals",
+        PriceUnit::TenThousandths => "no price of the offer in 1e-4 dollar",
+        PriceUnit::Nanodollars => "no price of the offer in 1e-9 dollar, which ends in 00000",
     }
 }
 
 /// What a cause says.
-fn sentence_of(cause: Cause) -> &'static str
+pub fn sentence_of(telling: Telling, cause: Cause) -> &'static str
     ensures { is_plain result.now ≡ true }
 {
     match cause {
         Cause::TooFewColumns => "fewer columns than the mapping names",
-        Cause::BadTime => "no time of day of the mapping's form",
+        Cause::BadTime => no_time(telling.time_form, telling.zone),
         Cause::UnknownParticipant => "a participant that is not on the roster",
         Cause::UnknownSymbol | Cause::OtherSymbol => "a symbol that is not on the roster",
         Cause::UnknownCondition => "a condition that the mapping does not list",
         Cause::OneSided(Side::Bid) => "a condition that makes the bid alone manual",
         Cause::OneSided(Side::Offer) => "a condition that makes the offer alone manual",
-        Cause::BadPrice(Side::Bid) => "no price of the bid in the mapping's unit",
-        Cause::BadPrice(Side::Offer) => "no price of the offer in the mapping's unit",
+        Cause::BadPrice(Side::Bid) => no_bid(telling.price_unit),
+        Cause::BadPrice(Side::Offer) => no_offer(telling.price_unit),
         Cause::BadSize(Side::Bid) => "no size of the bid, or one above 999,999,999 shares",
         Cause::BadSize(Side::Offer) => "no size of the offer, or one above 999,999,999 shares",
         Cause::HalfSide(Side::Bid) => "a bid with shares and no price",
@@ -273,8 +425,8 @@ fn sentence_of(cause: Cause) -> &'static str
     }
 }
 
-/// Writes the counts: a line for each cause that came, one for the changes that say less than their rows, two for what refused
-/// rows left, and last the sum.
+/// Writes the counts. There is a line for each cause that came, and one for the changes that say less than their rows. Two are
+/// for what refused rows left, and the last is the sum.
 pub fn write_tally<W: Write>(
     out: &mut W,
     meanings: &Meanings,
@@ -301,7 +453,7 @@ pub fn write_tally<W: Write>(
     )
 }
 
-/// The counts that have lines of their own, each with what is said of it.
+/// The counts that have their own lines, each with its text.
 fn counts_of(meanings: &Meanings, tally: &Tally, left: &Left) -> [(u64, &'static str); 16]
     ensures { list_all (λ count. is_plain count.1.now) result ≡ true }
 {
@@ -351,7 +503,7 @@ fn write_count<W: Write>(out: &mut W, count: u64, what: &'static str) -> Result<
     )
 }
 
-/// What became of rows of which one side alone is manual.
+/// The text for what is done with rows that have only one manual side.
 fn halves_are(half: Half) -> &'static str
     ensures { is_plain result.now ≡ true }
 {
@@ -362,7 +514,7 @@ fn halves_are(half: Half) -> &'static str
     }
 }
 
-/// What became of the refused rows that withdrew nothing.
+/// The text for the refused rows that withdrew nothing.
 fn kept_are(withdraws: bool) -> &'static str
     ensures { is_plain result.now ≡ true }
 {
@@ -422,10 +574,17 @@ fn shown_name(roster: &Roster, sym: Sym) -> &str
 }
 
 /// Writes a line.
+fn write_items<W: Write>(out: &mut W, items: &[Item<'_>]) -> Result<(), ShowFault>
+    ensures { list_all is_own_plain items.now ≡ true → Writes IsSafe (W.contents out.old) (W.contents out.new) result }
+{
+    write_line(out, Form::Text { colours: false }, items)
+}
+
+/// Writes a line, of which an import says the fault.
 fn line<W: Write>(out: &mut W, items: &[Item<'_>]) -> Result<(), ImportFault>
     ensures { list_all is_own_plain items.now ≡ true → Writes IsSafe (W.contents out.old) (W.contents out.new) result }
 {
-    match write_line(out, Form::Text { colours: false }, items) {
+    match write_items(out, items) {
         Ok(()) => Ok(()),
         Err(ShowFault::NoMemory) => Err(ImportFault::NoMemory),
         Err(ShowFault::WriteFault) => Err(ImportFault::WriteFault),

@@ -1,13 +1,15 @@
-//! Times of day: `specs/Times` and `specs/Imported`.
+//! Reading and writing times of day: `specs/Times` and `specs/Imported`.
 ghost use Rattle.std.specs.Prelude.{◌≡◌, ◌++◌, ◌∷◌, [], ◌<◌, ◌≤◌, ◌+◌, length, true, IfSome, OnOk, Some};
 ghost use Rattle.nms_units.specs.Digits.{by_point, point_in};
 ghost use Rattle.nms_units.specs.Price.{both};
+ghost use Rattle.nms_import.specs.Forms.{zone_in};
 ghost use Rattle.nms_import.specs.Mapping.{time_of};
-ghost use Rattle.nms_import.specs.Times.{after_seconds, clock_at, clock_digits, clock_number, clock_of, fraction, has_marks, hours_at, is_clock, iso_number, minutes_at, nanoseconds, only_if, point_and_fraction, seconds, second_at, seconds_and_fraction, seconds_at, seconds_number, two_at, whole_seconds, without_z};
+ghost use Rattle.nms_import.specs.Times.{clock_at, clock_digits, clock_number, clock_of, colons_number, days_of, fraction, has_colons, has_date, has_sign, hours_at, in_new_york, instant_from, instant_number, is_behind, is_clock, is_from_end, is_between, is_part_of_day, is_past, is_summer, iso_number, iso_zoned, midnight_number, number_within, over_midnight, since_march, zoned, microseconds, milliseconds, minutes_at, nanoseconds, only_if, point_and_fraction, seconds, second_at, seconds_and_fraction, seconds_at, seconds_number, to_utc, two_at, utc_number, whole_seconds, without_colon, zone_length};
 ghost use Rattle.nms_import.specs.Imported.{fifteen_digits, line_of, numbered_line, time_line};
 
 use crate::cause::Cause;
-use crate::meanings::{Meanings, TimeForm};
+use crate::meanings::{Meanings, TimeForm, Zone};
+use crate::right::zone_in;
 use nms_units::parse_digits;
 use std::alloc::AllocError;
 
@@ -25,16 +27,182 @@ pub(crate) fn time_in(meanings: &Meanings, text: &[u8]) -> Result<u64, Cause>
     }
 }
 
-/// A time of day in a form, as digits `HHMMSSnnnnnnnnn`, moved on by the seconds of a zone.
-pub fn clock_of(form: TimeForm, zone: u32, text: &[u8]) -> Option<u64>
+/// A time of day in a form, as digits `HHMMSSnnnnnnnnn`, moved by a zone.
+pub fn clock_of(form: TimeForm, zone: Zone, text: &[u8]) -> Option<u64>
     ensures { result ≡ clock_of form zone text.now }
 {
     match form {
         TimeForm::Clock => clock_within(text),
-        TimeForm::Seconds => Some(clock_at(zone, seconds_in(text)?)),
-        TimeForm::UnixNanoseconds => Some(clock_at(zone, parse_digits(text, 19)?)),
-        TimeForm::Iso => Some(clock_at(zone, iso_in(text)?)),
+        TimeForm::Seconds => zoned(zone, seconds_in(text)?),
+        TimeForm::UnixNanoseconds => zoned(zone, parse_digits(text, 19)?),
+        TimeForm::UnixMicroseconds => zoned(zone, microseconds(text)?),
+        TimeForm::UnixMilliseconds => zoned(zone, milliseconds(text)?),
+        TimeForm::Colons => zoned(zone, colons_in(text)?),
+        TimeForm::Iso => iso_zoned(zone, text),
     }
+}
+
+/// The time of day of nanoseconds since 1970, or after a midnight, moved by a zone.
+fn zoned(zone: Zone, nanos: u64) -> Option<u64>
+    ensures { result ≡ zoned zone nanos }
+{
+    match zone {
+        Zone::Moved(seconds) => Some(clock_at(seconds, nanos)),
+        Zone::NewYork => in_new_york(nanos),
+    }
+}
+
+/// The time of day of a date and a time, moved by a zone. The date is read only if the zone has a summer time.
+fn iso_zoned(zone: Zone, text: &[u8]) -> Option<u64>
+    ensures { result ≡ iso_zoned zone text.now }
+{
+    match zone {
+        Zone::Moved(seconds) => Some(clock_at(seconds, iso_in(text)?)),
+        Zone::NewYork => in_new_york(instant_in(text)?),
+    }
+}
+
+/// New York's time of day at an instant of the years 2007 to 2099, in nanoseconds since 1970.
+fn in_new_york(nanos: u64) -> Option<u64>
+    ensures { result ≡ in_new_york nanos }
+{
+    let second = nanos / 1_000_000_000;
+    if second < 1_167_609_600 || 4_102_444_800 <= second {
+        return None;
+    }
+    let zone = if is_summer(second) { 72_000 } else { 68_400 };
+    Some(clock_at(zone, nanos))
+}
+
+/// Whether New York has summer time at a second since 1970.
+fn is_summer(second: u64) -> bool
+    requires late { 1167609600 ≤ second }
+    requires early { second < 4102444800 }
+    ensures { result ≡ is_summer second }
+{
+    is_between(second - 25_200) && is_between(second - 21_600)
+}
+
+/// Whether a second since 1970 is on a day from the second Sunday in March on, and before the first in November.
+fn is_between(second: u64) -> bool
+    requires { second < 4102444800 }
+    ensures { result ≡ is_between second }
+{
+    let day = second / 86_400 + 671;
+    is_past(7, day) && !is_past(245, day)
+}
+
+/// Whether the last Sunday is at least this number of days after the last 1 March.
+fn is_past(days: u64, day: u64) -> bool
+    requires few { days < 1000 }
+    requires early { day < 1000000 }
+    ensures { result ≡ is_past days day }
+{
+    days + (day + 5) % 7 <= since_march(day)
+}
+
+/// How many days after a 1 March a day is, which is counted from that of 1968.
+fn since_march(day: u64) -> u64
+    requires { day < 1000000 }
+    ensures { result ≡ since_march day }
+{
+    day - (4 * day + 3) / 1461 * 1461 / 4
+}
+
+/// A date and a time of day, as nanoseconds since 1970.
+fn instant_in(text: &[u8]) -> Option<u64>
+    ensures { result ≡ instant_number text.now }
+{
+    if !has_date(text) {
+        return None;
+    }
+    instant_from(midnight_in(text), &text[11..])
+}
+
+/// A midnight and a time of day after it, as nanoseconds since 1970.
+fn instant_from(midnight: Option<u64>, text: &[u8]) -> Option<u64>
+    requires late { IfSome midnight (λ n. 86400000000000 ≤ n) }
+    requires high { IfSome midnight (λ n. n < 5000000000000000000) }
+    ensures { result ≡ instant_from midnight text.now }
+{
+    let midnight = midnight?;
+    let after = utc_in(text)?;
+    Some(midnight + after - over_midnight(text))
+}
+
+/// The nanoseconds by which a time that was taken to UTC over midnight is too late: a day for a zone that is not behind UTC.
+fn over_midnight(text: &[u8]) -> u64
+    ensures over { result ≡ over_midnight text.now }
+    ensures day { result ≤ 86400000000000 }
+{
+    let zone = &text[text.len() - zone_length(text)..];
+    if zone.len() <= 1 || is_behind(zone) {
+        0
+    } else {
+        86_400_000_000_000
+    }
+}
+
+/// Whether an offset is behind UTC.
+fn is_behind(zone: &[u8]) -> bool
+    requires { 0 < length zone.now }
+    ensures { result ≡ is_behind zone.now }
+{
+    zone[0] == b'-' && is_part_of_day(to_utc(zone))
+}
+
+/// Whether there are nanoseconds, and less than a day.
+fn is_part_of_day(nanos: Option<u64>) -> bool
+    ensures { result ≡ is_part_of_day nanos }
+{
+    match nanos {
+        Some(nanos) => nanos < 86_400_000_000_000,
+        None => false,
+    }
+}
+
+/// The midnight of UTC that begins a date of the years 2007 to 2099, as nanoseconds since 1970.
+fn midnight_in(text: &[u8]) -> Option<u64>
+    requires { 11 ≤ length text.now }
+    ensures midnight { result ≡ midnight_number text.now }
+    ensures late { IfSome result (λ n. 86400000000000 ≤ n) }
+    ensures high { IfSome result (λ n. n < 5000000000000000000) }
+{
+    if text[4] != b'-' || text[7] != b'-' {
+        return None;
+    }
+    let year = number_within(&text[..4], 4, 2007, 2099)?;
+    let month = number_within(&text[5..7], 2, 1, 12)?;
+    let day = number_within(&text[8..10], 2, 1, 31)?;
+    Some((days_of(year, month, day) - 671) * 86_400_000_000_000)
+}
+
+/// A number of at most this number of digits, if it is within two others.
+fn number_within(text: &[u8], digits: usize, least: u64, most: u64) -> Option<u64>
+    requires { digits < 10 }
+    ensures number { result ≡ number_within digits least most text.now }
+    ensures least { IfSome result (λ n. least ≤ n) }
+    ensures most { IfSome result (λ n. n ≤ most) }
+{
+    let number = parse_digits(text, digits)?;
+    if least <= number && number <= most {
+        Some(number)
+    } else {
+        None
+    }
+}
+
+/// The days from 1 March 1968 to a date.
+fn days_of(year: u64, month: u64, day: u64) -> u64
+    requires from { 2007 ≤ year }
+    requires to { year ≤ 2099 }
+    requires month { (1 ≤ month) × (month ≤ 12) }
+    requires day { (1 ≤ day) × (day ≤ 31) }
+    ensures days { result ≡ days_of year month day }
+    ensures least { 1000 ≤ result }
+    ensures most { result < 50000 }
+{
+    (year * 12 + month - 23_619) / 12 * 1461 / 4 + (153 * ((month + 9) % 12) + 2) / 5 + day - 1
 }
 
 /// Six digits and up to nine after them, if they are a time of day.
@@ -95,7 +263,7 @@ fn is_clock(time: u64) -> bool
         && time / 1_000_000_000 % 100 < 60
 }
 
-/// The time of day of nanoseconds after a midnight, moved on by the seconds of a zone.
+/// The time of day at nanoseconds after a midnight, after it is moved on by the seconds of a zone.
 fn clock_at(zone: u32, nanos: u64) -> u64
     ensures { result ≡ clock_at zone nanos }
 {
@@ -103,7 +271,7 @@ fn clock_at(zone: u32, nanos: u64) -> u64
     clock_digits(second) + nanos % 1_000_000_000
 }
 
-/// HHMMSS of a second of the day, before nine other digits.
+/// The digits HHMMSS of a second of the day, before nine other digits.
 fn clock_digits(second: u64) -> u64
     requires { second < 86400 }
     ensures digits { result ≡ clock_digits second }
@@ -112,6 +280,22 @@ fn clock_digits(second: u64) -> u64
     second / 3600 * 10_000_000_000_000
         + second / 60 % 60 * 100_000_000_000
         + second % 60 * 1_000_000_000
+}
+
+/// A text of up to 16 digits of microseconds, as nanoseconds.
+fn microseconds(text: &[u8]) -> Option<u64>
+    ensures { result ≡ microseconds text.now }
+{
+    let number = parse_digits(text, 16)?;
+    Some(number * 1000)
+}
+
+/// A text of up to 13 digits of milliseconds, as nanoseconds.
+fn milliseconds(text: &[u8]) -> Option<u64>
+    ensures { result ≡ milliseconds text.now }
+{
+    let number = parse_digits(text, 13)?;
+    Some(number * 1_000_000)
 }
 
 /// Seconds after midnight, as nanoseconds.
@@ -126,7 +310,7 @@ fn seconds_in(text: &[u8]) -> Option<u64>
     }
 }
 
-/// Up to five digits, and at most a point with up to nine digits, as nanoseconds.
+/// A text of up to five digits, and at most a point with up to nine digits, as nanoseconds.
 fn any_seconds_in(text: &[u8]) -> Option<u64>
     ensures { result ≡ by_point seconds_and_fraction text.now (whole_seconds text.now) }
 {
@@ -140,15 +324,15 @@ fn any_seconds_in(text: &[u8]) -> Option<u64>
     }
 }
 
-/// Where the first point stands.
-fn point_in(text: &[u8]) -> Option<usize>
+/// The place of the first point.
+pub(crate) fn point_in(text: &[u8]) -> Option<usize>
     ensures place { result ≡ point_in text.now }
     ensures within { IfSome result (λ point. point < length text.now) }
 {
     text.iter().position(|c| *c == b'.')
 }
 
-/// Up to five digits, as nanoseconds.
+/// A text of up to five digits, as nanoseconds.
 fn whole_seconds(text: &[u8]) -> Option<u64>
     ensures seconds { result ≡ whole_seconds text.now }
     ensures high { IfSome result (λ n. n < 1000000000000000) }
@@ -161,16 +345,108 @@ fn whole_seconds(text: &[u8]) -> Option<u64>
 fn iso_in(text: &[u8]) -> Option<u64>
     ensures { result ≡ iso_number text.now }
 {
-    if !has_marks(text) {
+    if !has_date(text) {
+        return None;
+    }
+    utc_in(&text[11..])
+}
+
+/// A time of day that may have its zone after it, as nanoseconds after a midnight of UTC.
+fn utc_in(text: &[u8]) -> Option<u64>
+    ensures number { result ≡ utc_number text.now }
+    ensures high { IfSome result (λ n. n < 1600000000000000000) }
+{
+    let end = text.len() - zone_length(text);
+    let local = colons_in(&text[..end])?;
+    shifted(local, to_utc(&text[end..]))
+}
+
+/// A text `HH:MM:SS`, and at most a point and one to nine digits, as nanoseconds.
+fn colons_in(text: &[u8]) -> Option<u64>
+    ensures number { result ≡ colons_number text.now }
+    ensures high { IfSome result (λ n. n < 1500000000000000000) }
+{
+    if !has_colons(text) {
         return None;
     }
     let second = second_at(text)?;
-    plus(second, after_seconds(text))
+    plus(second, point_and_fraction(&text[8..]))
 }
 
-/// Hours, minutes and seconds, as nanoseconds.
+/// How many bytes at the end of a text are its zone.
+fn zone_length(text: &[u8]) -> usize
+    ensures length { result ≡ zone_length text.now }
+    ensures within { result ≤ length text.now }
+{
+    if is_from_end(text, 1, b'Z') {
+        1
+    } else if has_sign(text, 6) {
+        6
+    } else if has_sign(text, 5) {
+        5
+    } else {
+        0
+    }
+}
+
+/// Whether the last bytes begin with a plus or a minus.
+fn has_sign(text: &[u8], bytes: usize) -> bool
+    requires { 0 < bytes }
+    ensures sign { result ≡ has_sign bytes text.now }
+    ensures long { result ≡ true → bytes ≤ length text.now }
+{
+    is_from_end(text, bytes, b'+') || is_from_end(text, bytes, b'-')
+}
+
+/// Whether the last bytes begin with a byte.
+fn is_from_end(text: &[u8], bytes: usize, c: u8) -> bool
+    requires { 0 < bytes }
+    ensures byte { result ≡ is_from_end bytes c text.now }
+    ensures long { result ≡ true → bytes ≤ length text.now }
+{
+    bytes <= text.len() && text[text.len() - bytes] == c
+}
+
+/// The nanoseconds that lead from a local time to UTC, across midnight. They are 0 for a `Z` and for no zone.
+fn to_utc(zone: &[u8]) -> Option<u64>
+    ensures shift { result ≡ to_utc zone.now }
+    ensures high { IfSome result (λ n. n < 100000000000000) }
+{
+    if zone.len() <= 1 {
+        return Some(0);
+    }
+    let seconds = offset_in(zone)?;
+    Some((86_400 - u64::from(seconds)) * 1_000_000_000)
+}
+
+/// The seconds by which an offset moves a time on, across midnight.
+fn offset_in(zone: &[u8]) -> Option<u32>
+    ensures offset { result ≡ zone_in (without_colon zone.now) }
+    ensures day { IfSome result (λ zone. zone < 86400) }
+{
+    if zone.len() == 6 && zone[3] == b':' {
+        zone_in(&[zone[0], zone[1], zone[2], zone[4], zone[5]])
+    } else {
+        zone_in(zone)
+    }
+}
+
+/// A time after it is moved on by a shift, which may be absent.
+fn shifted(time: u64, shift: Option<u64>) -> Option<u64>
+    requires small { time < 1500000000000000000 }
+    requires few { IfSome shift (λ n. n < 100000000000000) }
+    ensures sum { result ≡ both (Some time) shift }
+    ensures high { IfSome result (λ n. n < 1600000000000000000) }
+{
+    match shift {
+        Some(shift) => Some(time + shift),
+        None => None,
+    }
+}
+
+/// The nanoseconds of hours, minutes and seconds.
 fn second_at(text: &[u8]) -> Option<u64>
-    requires { 19 ≤ length text.now }
+    requires { 8 ≤ length text.now }
     ensures second { result ≡ second_at text.now }
     ensures high { IfSome result (λ n. n < 300000000000000) }
 {
@@ -180,20 +456,12 @@ fn second_at(text: &[u8]) -> Option<u64>
     Some(hours + minutes + seconds)
 }
 
-/// What stands after the seconds, as nanoseconds.
-fn after_seconds(text: &[u8]) -> Option<u64>
-    requires { 19 ≤ length text.now }
-    ensures after { result ≡ after_seconds text.now }
-    ensures high { IfSome result (λ n. n < 1000000000000000000) }
-{
-    point_and_fraction(without_z(&text[19..]))
-}
-
-/// A number and one that may be absent.
+/// The sum of a number and one that may be absent.
 fn plus(number: u64, other: Option<u64>) -> Option<u64>
     requires small { number < 300000000000000 }
     requires few { IfSome other (λ n. n < 1000000000000000000) }
-    ensures { result ≡ both (Some number) other }
+    ensures sum { result ≡ both (Some number) other }
+    ensures high { IfSome result (λ n. n < 1500000000000000000) }
 {
     match other {
         Some(other) => Some(number + other),
@@ -201,18 +469,23 @@ fn plus(number: u64, other: Option<u64>) -> Option<u64>
     }
 }
 
-/// Whether there are 19 bytes, with what stands between the digits of the time of day.
-fn has_marks(text: &[u8]) -> bool
-    ensures marks { result ≡ has_marks text.now }
-    ensures long { result ≡ true → 19 ≤ length text.now }
+/// Whether there are eight bytes with two colons.
+fn has_colons(text: &[u8]) -> bool
+    ensures colons { result ≡ has_colons text.now }
+    ensures long { result ≡ true → 8 ≤ length text.now }
 {
-    text.len() >= 19
-        && (text[10] == b'T' || text[10] == b' ')
-        && text[13] == b':'
-        && text[16] == b':'
+    text.len() >= 8 && text[2] == b':' && text[5] == b':'
 }
 
-/// Two digits.
+/// Whether there are eleven bytes, and the last of them may be between a date and a time of day.
+fn has_date(text: &[u8]) -> bool
+    ensures date { result ≡ has_date text.now }
+    ensures long { result ≡ true → 11 ≤ length text.now }
+{
+    text.len() >= 11 && (text[10] == b'T' || text[10] == b' ')
+}
+
+/// The number of two digits.
 fn two_at(text: &[u8], place: usize) -> Option<u64>
     requires { place + 2 ≤ length text.now }
     ensures two { result ≡ two_at place text.now }
@@ -223,11 +496,11 @@ fn two_at(text: &[u8], place: usize) -> Option<u64>
 
 /// The hours, as nanoseconds.
 fn hours_at(text: &[u8]) -> Option<u64>
-    requires { 19 ≤ length text.now }
+    requires { 8 ≤ length text.now }
     ensures hours { result ≡ hours_at text.now }
     ensures high { IfSome result (λ n. n < 100000000000000) }
 {
-    let number = two_at(text, 11)?;
+    let number = two_at(text, 0)?;
     if number < 24 {
         Some(number * 3_600_000_000_000)
     } else {
@@ -237,11 +510,11 @@ fn hours_at(text: &[u8]) -> Option<u64>
 
 /// The minutes, as nanoseconds.
 fn minutes_at(text: &[u8]) -> Option<u64>
-    requires { 19 ≤ length text.now }
+    requires { 8 ≤ length text.now }
     ensures minutes { result ≡ minutes_at text.now }
     ensures high { IfSome result (λ n. n < 100000000000000) }
 {
-    let number = two_at(text, 14)?;
+    let number = two_at(text, 3)?;
     if number < 60 {
         Some(number * 60_000_000_000)
     } else {
@@ -251,11 +524,11 @@ fn minutes_at(text: &[u8]) -> Option<u64>
 
 /// The seconds, as nanoseconds.
 fn seconds_at(text: &[u8]) -> Option<u64>
-    requires { 19 ≤ length text.now }
+    requires { 8 ≤ length text.now }
     ensures seconds { result ≡ seconds_at text.now }
     ensures high { IfSome result (λ n. n < 100000000000000) }
 {
-    let number = two_at(text, 17)?;
+    let number = two_at(text, 6)?;
     if number < 60 {
         Some(number * 1_000_000_000)
     } else {
@@ -263,19 +536,7 @@ fn seconds_at(text: &[u8]) -> Option<u64>
     }
 }
 
-/// A text without the `Z` that it ends with.
-fn without_z(text: &[u8]) -> &[u8]
-    ensures { result.now ≡ without_z text.now }
-{
-    let length = text.len();
-    if 0 < length && text[length - 1] == b'Z' {
-        &text[..length - 1]
-    } else {
-        text
-    }
-}
-
-/// A point and one to nine digits, or nothing, as nanoseconds.
+/// The nanoseconds of a point and one to nine digits, or of nothing.
 fn point_and_fraction(text: &[u8]) -> Option<u64>
     ensures fraction { result ≡ point_and_fraction text.now }
     ensures high { IfSome result (λ n. n < 1000000000000000000) }
@@ -290,7 +551,7 @@ fn point_and_fraction(text: &[u8]) -> Option<u64>
     }
 }
 
-/// Appends the line of a time. With `numbers` it has the number of the row. After an error a prefix of it may stand there.
+/// Appends the line of a time. If `numbers` is set, it has the number of the row. After an error a prefix of it may be there.
 pub fn append_line(out: &mut Vec<u8>, numbers: bool, row: u64, time: u64) -> Result<(), AllocError>
     ensures { OnOk result (out.new.items ≡ out.old.items ++ line_of numbers row time) }
 {

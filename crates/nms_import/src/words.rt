@@ -18,7 +18,7 @@ fn is_word(word: &Word, text: &[u8]) -> bool
     word.text.as_slice() == text
 }
 
-/// The name on the roster that a word of the file stands for.
+/// The name on the roster for a word of the file.
 pub fn name_of<'a>(meanings: &'a Meanings, word: &'a [u8]) -> Option<&'a [u8]>
     ensures { option_map (λ name. name.now) result ≡ name_of meanings.now word.now }
 {
@@ -50,7 +50,7 @@ pub(crate) fn place_said(said: &[Said], first: &[u8], second: &[u8]) -> Option<u
         .position(|it| is_joined(first, second, &it.word))
 }
 
-/// Whether a word is one text and then another.
+/// Whether a word is one text and then the other.
 fn is_joined(first: &[u8], second: &[u8], word: &[u8]) -> bool
     ensures { result ≡ is_joined first.now second.now word.now }
 {

@@ -1,4 +1,4 @@
--- Where the columns of a mapping of trades stand in a file, by the file's first row. This product's own rule.
+-- The places of the columns of a mapping of trades in a file, by the file's first row. This product's own rule.
 use Rattle.std.specs.Prelude.{ℕ, max, fold, List, [], ◌∷◌, map, Option, Some, None}
 use Rattle.std.specs.Option.{option_map_or}
 use Rattle.nms_lines.specs.Layout.{Record}
@@ -38,6 +38,6 @@ columns_but_id columns =
 abbrev pub needed_by_id : Option Column → ℕ
 needed_by_id id = option_map_or columns_needed id 0
 
--- how many columns a row needs to have them all: as many as the last of them needs
+-- how many columns a row needs to have them all: the number that the last of them needs
 abbrev pub width_of : TradeColumns → ℕ
 width_of columns = fold max (needed_by_id columns.id) (map columns_needed (columns_but_id columns))

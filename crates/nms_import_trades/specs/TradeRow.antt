@@ -9,7 +9,7 @@ use Rattle.nms_quote.specs.Roster.{Listing, place_in}
 use Rattle.nms_lines.specs.Layout.{Record, field}
 use Rattle.nms_lines.specs.Numbers.{above_zero, shares_number}
 use Rattle.nms_lines.specs.Sides.{is_empty}
-use Rattle.nms_import.specs.Mapping.{column_text, is_listed, name_of, symbol_in}
+use Rattle.nms_import.specs.Mapping.{column_text, is_listed, name_of, symbol_in, without_zeros}
 use Rattle.nms_import.specs.Times.{clock_of}
 use Rattle.nms_import.specs.declared.column.Column.{Column}
 use Rattle.nms_import.specs.declared.meanings.Meanings.{Meanings}
@@ -62,7 +62,7 @@ abbrev pub venue_found : Option ℕ → Result (Option ℕ) TradeCause
 venue_found None = Err cause.UnknownParticipant
 venue_found (Some part) = Ok (Some part)
 
--- where it was executed; a word that stands for no name says: off an exchange
+-- where it was executed; a word for no name means off an exchange
 abbrev pub venue_named : Listing → Option (List ℕ) → Result (Option ℕ) TradeCause
 venue_named roster None = Err cause.UnknownParticipant
 venue_named roster (Some name) = if is_empty name then Ok None else venue_found (place_in roster.parts name)
@@ -86,9 +86,9 @@ abbrev pub in_range : Option ℕ → Option ℕ
 in_range None = None
 in_range (Some n) = if nat_le n MOST_MILLIONTHS then above_zero (Some n) else None
 
--- a price in 1/1,000,000 dollar, above zero: dollars with at most 6 decimals, or a whole number of the unit
+-- a price in 1/1,000,000 dollar, above zero: dollars of which at most 6 decimals count, or a whole number of the unit
 abbrev pub millionths_of : PriceUnit → List ℕ → Option ℕ
-millionths_of unit.Dollars text = above_zero (fine_number text)
+millionths_of unit.Dollars text = above_zero (fine_number (without_zeros 6 text))
 millionths_of unit.TenThousandths text = above_zero (option_map (λ n. n * 100) (number_in 11 text))
 millionths_of unit.Nanodollars text = in_range (thousands (number_in 19 text))
 
@@ -181,7 +181,7 @@ trade_of columns mapping roster line = do
   part ← venue_of mapping roster (column_text columns.participant line)
   sym ← or_stop (symbol_in mapping.common roster (column_text columns.symbol line)) (no_symbol mapping.common)
   price ← or_stop (millionths_of mapping.common.price_unit (column_text columns.price line)) cause.BadPrice
-  shares ← or_stop (above_zero (shares_number (column_text columns.shares line))) cause.BadShares
+  shares ← or_stop (above_zero (shares_number (without_zeros 0 (column_text columns.shares line)))) cause.BadShares
   dealt ← deal_of mapping (column_text columns.side line)
   known ← stop_if (not (list_all (is_known mapping) (column_text columns.condition line))) cause.UnknownCondition
   marked ← mark_of mapping (column_text columns.exempt line)

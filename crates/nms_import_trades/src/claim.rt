@@ -1,4 +1,4 @@
-//! What the letters of a trade's condition claim.
+//! The flags that the letters of a trade's condition claim.
 ghost use Rattle.std.specs.Prelude.{◌≡◌};
 ghost use Rattle.nms_import_trades.specs.Executions.{flag_letter};
 ghost use Rattle.nms_import_trades.specs.TradeRow.{is_exempt, is_reason};
@@ -38,7 +38,7 @@ pub struct Claim {
 }
 
 impl Flag {
-    /// Its letter.
+    /// The flag's letter.
     pub(crate) fn letter(self) -> u8
         ensures { result ≡ flag_letter self }
     {
@@ -56,7 +56,7 @@ impl Flag {
         }
     }
 
-    /// Whether it names a reason for an exemption.
+    /// Whether the flag names a reason for an exemption.
     pub(crate) fn is_reason(self) -> bool
         ensures { result ≡ is_reason self }
     {
@@ -72,7 +72,7 @@ impl Flag {
         }
     }
 
-    /// Whether it marks an exemption without a reason.
+    /// Whether the flag marks an exemption without a reason.
     pub(crate) fn is_exempt(self) -> bool
         ensures { result ≡ is_exempt self }
     {

@@ -62,7 +62,7 @@ fn claims_it(condition: &[u8], it: &Claim) -> bool
     condition.iter().any(|c| has_letter(&it.letters, *c))
 }
 
-/// Whether a trade is marked exempt, and no letter says why.
+/// Whether a trade is marked exempt, and no letter gives the reason.
 fn lacks_reason(claims: &[Claim], condition: &[u8], marked: bool) -> bool
     ensures { result ≡ lacks_reason claims.now condition.now marked }
 {

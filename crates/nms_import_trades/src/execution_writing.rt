@@ -1,4 +1,4 @@
-//! The record of an execution: `specs/Executions`.
+//! Writing the record of an execution: `specs/Executions`.
 ghost use Rattle.std.specs.Prelude.{◌≡◌, ◌++◌, ◌∷◌, [], OnOk, codes};
 ghost use Rattle.std.specs.Fmt.{decimal};
 ghost use Rattle.csv.specs.Records.{fields_of};
@@ -21,7 +21,7 @@ use nms_trades::{Deal, push_millionths};
 use nms_units::Shares;
 use std::alloc::AllocError;
 
-/// Appends the record of an execution that the row of a number makes. `flags` is room that a caller keeps from row to row.
+/// Appends the record of an execution that the row with a number makes. `flags` is room that a caller keeps from row to row.
 pub(crate) fn append_execution(
     out: &mut Vec<u8>,
     columns: &TradeColumns,
@@ -101,7 +101,7 @@ fn push_deal(out: &mut Vec<u8>, deal: Option<Deal>) -> Result<(), AllocError>
     push_text(out, deal_text(deal))
 }
 
-/// Appends a comma and where it was executed.
+/// Appends a comma and the exchange on which it was executed.
 fn push_venue(out: &mut Vec<u8>, roster: &Roster, part: Option<Part>) -> Result<(), AllocError>
     ensures { OnOk result (out.new.items ≡ out.old.items ++ 44 ∷ venue_text roster.now part) }
 {
@@ -125,7 +125,7 @@ fn push_flags(
     append_flags(out, &meanings.claims, condition, marked, flags)
 }
 
-/// The word of a purchase or a sale.
+/// The word for a purchase or a sale.
 fn deal_text(deal: Option<Deal>) -> &'static str
     ensures { result.now ≡ deal_text deal }
 {
@@ -136,7 +136,7 @@ fn deal_text(deal: Option<Deal>) -> &'static str
     }
 }
 
-/// The name of where it was executed.
+/// The name of the exchange on which it was executed.
 fn venue_text(roster: &Roster, part: Option<Part>) -> &str
     ensures { result.now ≡ venue_text roster.now part }
 {

@@ -1,4 +1,4 @@
-//! The rows of a file of trades, imported one after another: `specs/Executions`.
+//! Importing the rows of a file of trades, one after another: `specs/Executions`.
 ghost use Rattle.std.specs.Prelude.{◌≡◌, ℕ, ◌++◌, ◌∷◌, ◌+◌, ◌<◌, [], List, Option, length, OnOk};
 ghost use Rattle.std.specs.Io.KnownBytes.{Appends};
 ghost use Rattle.csv.specs.Records.{fields_of};
@@ -26,9 +26,9 @@ use std::io::{Read, Write};
 /// Room that is kept from row to row.
 #[derive(Drop)]
 pub struct TradeWork {
-    /// The row at hand.
+    /// The present row.
     pub row: ByteRecord,
-    /// What is known of the last lines of files.
+    /// What is known about the last lines of files.
     pub lasts: LastLines,
     scratch: Vec<u8>,
     flags: Vec<u8>,
@@ -39,8 +39,8 @@ impl TradeWork {
     ghost use Rattle.std.specs.Prelude.{◌≡◌, []};
     ghost use Rattle.csv.specs.Records.{fields_of};
 
-    /// Room for a row. It takes no memory before the first. `count` is the place of the count in the last line of a file,
-    /// from 0.
+    /// Room for a row. It takes no memory before the first row. `count` is the place of the count in the last line of a file,
+    /// counted from 0.
     pub fn new(alloc: Global, count: Option<u16>) -> TradeWork
         ensures { fields_of result.row ≡ [] }
     {
@@ -54,7 +54,7 @@ impl TradeWork {
     }
 }
 
-/// Imports the rows of trades that a reader still has: writes the records of the executions that they make, in order, and
+/// Imports the rows of trades that a reader still has. It writes the records of the executions that they make, in order, and
 /// counts every outcome. The counts, and the numbers of the rows, go on from those of earlier files.
 ///
 /// After an error a prefix of the text was written. The writer is not flushed.
@@ -96,7 +96,7 @@ pub fn import_trades<R: Read, W: Write, E: Write>(
     Err(ImportFault::TooLong)
 }
 
-/// Imports the row at hand, which has a number.
+/// Imports the present row, which has a number.
 fn import_trade<W: Write, E: Write>(
     columns: &TradeColumns,
     meanings: &TradeMeanings,
@@ -130,7 +130,7 @@ fn import_trade<W: Write, E: Write>(
     }
 }
 
-/// Writes the record of an execution that the row at hand makes.
+/// Writes the record of an execution that the present row makes.
 fn write_trade<W: Write>(
     columns: &TradeColumns,
     meanings: &TradeMeanings,

@@ -1,5 +1,5 @@
-//! Vendors' delimited files of trades as executions, by a mapping: what each row makes, the text that is written, and the
-//! counts of every outcome.
+//! Reading vendors' delimited files of trades as executions, by a mapping: what each row makes, the text that is written, and
+//! the counts of every outcome.
 #![tactic(auto)]
 
 mod claim;

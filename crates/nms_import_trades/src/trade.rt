@@ -1,16 +1,16 @@
-//! What an accepted row says.
+//! The content of an accepted row.
 use nms_quote::{Part, Sym};
 use nms_trades::Deal;
 use nms_units::Shares;
 
-/// What an accepted row says, but for its name and its condition.
+/// The content of an accepted row, except its name and its condition.
 #[derive(Clone, Copy)]
 pub struct Trade {
     /// The time of day as digits, `HHMMSSnnnnnnnnn`.
     pub time: u64,
-    /// Where it was executed; `None` off an exchange.
+    /// The exchange on which it was executed; `None` off an exchange.
     pub part: Option<Part>,
-    /// What was traded.
+    /// The symbol that was traded.
     pub sym: Sym,
     /// The price in 1/1,000,000 dollar, at least 1.
     pub millionths: u64,

@@ -18,7 +18,7 @@ pub enum TradeCause {
     UnknownSymbol,
     /// The price is not of the mapping's unit, has more than 6 decimals, is zero, or is above 9,999,999.999999 dollars.
     BadPrice,
-    /// The shares are not 1 to 9 digits, or zero.
+    /// The shares are not a number of 1 to 9 digits, or are zero.
     BadShares,
     /// The mapping lists no such side.
     UnknownSide,
@@ -26,20 +26,20 @@ pub enum TradeCause {
     UnknownCondition,
     /// The mapping lists no such mark of an exempt trade.
     UnknownMark,
-    /// The mapping lists words of rows to keep, and its word is neither among them nor among those to skip.
+    /// The mapping lists words of rows to keep. The row's word is neither among them nor among those to skip.
     UnknownWord,
-    /// The mapping's last line of the file, as `END|20240102|..`.
+    /// The row is the last line of the file, as the mapping says: `END|20240102|..`.
     Trailer,
-    /// The mapping lists its word among those to skip.
+    /// The mapping lists the row's word among those to skip.
     Listed,
-    /// A letter of its condition says that it is no trade.
+    /// A letter of the row's condition says that it is no trade.
     NoTrade,
     /// The symbol is not on the roster, and the mapping skips such rows.
     OtherSymbol,
 }
 
 impl TradeCause {
-    /// Whether the row is skipped, and not refused.
+    /// Whether the row is skipped instead of refused.
     pub fn skips(self) -> bool
         ensures { result ≡ is_skipped self }
     {

@@ -16,9 +16,9 @@ pub struct TradeColumns {
     pub id: Option<Column>,
     /// The time of day.
     pub time: Column,
-    /// Where it was executed.
+    /// The exchange on which it was executed.
     pub participant: Column,
-    /// What was traded.
+    /// The symbol that was traded.
     pub symbol: Column,
     /// The price.
     pub price: Column,
@@ -34,7 +34,7 @@ pub struct TradeColumns {
     pub skip: Column,
 }
 
-/// A `Drop` of its own: a function that holds one then has one call at each exit, and not one for each part (docs/GATE.md).
+/// It has its own `Drop`, so that a function that holds one has one call at each exit, and not one for each part (docs/GATE.md).
 impl Drop for TradeColumns {
     fn drop(self) {
         let TradeColumns {
@@ -54,7 +54,7 @@ impl Drop for TradeColumns {
 }
 
 impl TradeColumns {
-    /// No column: no name, and the empty text in each of the others.
+    /// Columns without a name, which are all the empty text.
     pub(crate) fn none(alloc: Global) -> TradeColumns
         ensures { result.width ≡ 0 }
     {

@@ -25,7 +25,7 @@ use nms_import::{
 use std::alloc::{AllocError, Global};
 use toml::Table;
 
-/// What a mapping says of the columns.
+/// What a mapping says about the columns.
 struct TradeSources {
     id: Option<Source>,
     time: Source,
@@ -39,7 +39,7 @@ struct TradeSources {
     skip: Source,
 }
 
-/// A `Drop` of its own: a function that holds one then has one call at each exit, and not one for each part (docs/GATE.md).
+/// It has its own `Drop`, so that a function that holds one has one call at each exit, and not one for each part (docs/GATE.md).
 impl Drop for TradeSources {
     fn drop(self) {
         let TradeSources {
@@ -60,7 +60,7 @@ impl Drop for TradeSources {
 /// A mapping of trades.
 #[derive(Drop)]
 pub struct TradeMapping {
-    /// How a file is laid out.
+    /// How the file is laid out.
     pub file: FileForm,
     /// What the texts mean.
     pub meanings: TradeMeanings,
@@ -103,7 +103,7 @@ impl TradeMapping {
     }
 }
 
-/// Where the name of an execution stands, if the mapping has a column of it.
+/// The place of the name of an execution, if the mapping has a column for it.
 fn place_of_id(
     alloc: Global,
     source: &Option<Source>,
@@ -130,7 +130,7 @@ pub fn is_of_trades(document: &Table) -> bool
     }
 }
 
-/// The mapping of trades of a document, or the first of its faults.
+/// The mapping of trades that a document gives, or the first of its faults.
 pub fn trade_mapping_of(alloc: Global, document: &Table) -> Result<TradeMapping, MapFault<'_>>
     ensures mapping { IfOk result (IsMappingOf (plain kind.Trades (table_view document.now))) }
     ensures refused { IfErr result (IsFirst (faults_of (plain kind.Trades (table_view document.now)))) }
@@ -138,7 +138,7 @@ pub fn trade_mapping_of(alloc: Global, document: &Table) -> Result<TradeMapping,
     trade_mapping_by(alloc, Draft::new(Kind::Trades, document))
 }
 
-/// The mapping of a document, or the first of its faults.
+/// The mapping that a document gives, or the first of its faults.
 fn trade_mapping_by<'a>(alloc: Global, draft: Draft<'a>) -> Result<TradeMapping, MapFault<'a>>
     ensures mapping { IfOk result (IsMappingOf (doc_of draft.entry)) }
     ensures refused { IfErr result (IsFirst (faults_of (doc_of draft.entry))) }
@@ -152,7 +152,7 @@ fn trade_mapping_by<'a>(alloc: Global, draft: Draft<'a>) -> Result<TradeMapping,
     })
 }
 
-/// What the mapping says of the columns.
+/// What the mapping says about the columns.
 fn sources_in(alloc: Global, draft: Draft<'_>) -> Result<TradeSources, AllocError>
     ensures { IfOk result (λ sources. are_within sources ≡ true) }
 {
@@ -279,7 +279,7 @@ fn add_letters(draft: Draft<'_>, key: &str, letters: &mut Vec<u8>) -> Result<(),
     Ok(())
 }
 
-/// Adds the letters at a key that claim no flag, and are none of those. A mapping without fault has no others there.
+/// Adds the letters at a key that claim no flag, and are none of the others. A mapping without fault has no others there.
 fn add_others(
     draft: Draft<'_>,
     key: &str,
@@ -300,7 +300,7 @@ fn add_others(
     Ok(())
 }
 
-/// Adds a letter, unless it claims a flag or is one of those.
+/// Adds a letter, unless it claims a flag or is one of the others.
 fn add_other(
     claims: &[Claim],
     those: &[u8],

@@ -4,14 +4,14 @@ use nms_import::{Meanings, Word};
 
 /// What the texts of a file of trades mean.
 pub struct TradeMeanings {
-    /// Times, the unit of prices, names, symbols, the last line and the words to skip, as of quotes. A participant's name
-    /// may be empty: off an exchange.
+    /// Times, the unit of prices, names, symbols, the last line and the words to skip, as for quotes. A participant's name may
+    /// be empty, which means off an exchange.
     pub common: Meanings,
     /// The words for a purchase.
     pub bought: Vec<Word>,
     /// The words for a sale.
     pub sold: Vec<Word>,
-    /// The words for neither.
+    /// The words for neither of these.
     pub neither: Vec<Word>,
     /// Each flag with the letters of a condition that claim it.
     pub claims: Vec<Claim>,
@@ -19,15 +19,15 @@ pub struct TradeMeanings {
     pub nothing: Vec<u8>,
     /// The letters of rows that are no trades, and are skipped.
     pub no_trade: Vec<u8>,
-    /// The words of the column `skip` whose rows are kept; if there are none, all are kept that are not skipped.
+    /// The words of the column `skip` whose rows are kept. If there are none, all rows are kept that are not skipped.
     pub kept: Vec<Word>,
     /// The words of a trade that is marked exempt.
     pub marked: Vec<Word>,
-    /// The words of one that is not.
+    /// The words of a trade that is not marked exempt.
     pub unmarked: Vec<Word>,
 }
 
-/// A `Drop` of its own: a function that holds one then has one call at each exit, and not one for each part (docs/GATE.md).
+/// It has its own `Drop`, so that a function that holds one has one call at each exit, and not one for each part (docs/GATE.md).
 impl Drop for TradeMeanings {
     fn drop(self) {
         let TradeMeanings {

@@ -1,8 +1,8 @@
-//! Prices of trades: `specs/TradeRow`.
+//! Reading prices of trades: `specs/TradeRow`.
 ghost use Rattle.std.specs.Prelude.{◌≡◌, ◌<◌, ◌≤◌, IfSome, Some};
 ghost use Rattle.nms_import_trades.specs.TradeRow.{in_range, millionths_of};
 
-use nms_import::PriceUnit;
+use nms_import::{PriceUnit, without_zeros};
 use nms_trades::{MOST_MILLIONTHS, millionths_in};
 use nms_units::parse_digits;
 
@@ -11,7 +11,7 @@ pub(crate) fn millionths_of(unit: PriceUnit, text: &[u8]) -> Option<u64>
     ensures { result ≡ millionths_of unit text.now }
 {
     match unit {
-        PriceUnit::Dollars => millionths_in(text),
+        PriceUnit::Dollars => millionths_in(without_zeros(6, text)),
         PriceUnit::TenThousandths => match parse_digits(text, 11) {
             Some(0) | None => None,
             Some(number) => Some(number * 100),
@@ -23,7 +23,7 @@ pub(crate) fn millionths_of(unit: PriceUnit, text: &[u8]) -> Option<u64>
     }
 }
 
-/// The price, if an execution may have it.
+/// A price, if an execution may have it.
 fn in_range(number: u64) -> Option<u64>
     ensures { result ≡ in_range (Some number) }
 {

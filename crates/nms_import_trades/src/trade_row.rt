@@ -1,4 +1,4 @@
-//! What a row of trades makes: `specs/TradeRow`.
+//! Reading a row of trades: `specs/TradeRow`.
 ghost use Rattle.std.specs.Prelude.{◌≡◌, IfOk};
 ghost use Rattle.csv.specs.Records.{fields_of};
 ghost use Rattle.nms_import.specs.Mapping.{column_text, symbol_in};
@@ -11,14 +11,13 @@ use crate::trade_columns::{TradeColumns, has_name};
 use crate::trade_meanings::TradeMeanings;
 use crate::trade_price::millionths_of;
 use csv::ByteRecord;
-use nms_import::{Meanings, clock_of, is_listed, name_of, symbol_in};
+use nms_import::{Meanings, clock_of, is_listed, name_of, symbol_in, without_zeros};
 use nms_lines::{field_at, some_shares_of};
 use nms_quote::{Part, Roster, Sym};
 use nms_trades::Deal;
 use std::alloc::AllocError;
 
-/// What a row makes: an execution, or the first cause why it makes none. `scratch` is room that a caller keeps from row to
-/// row.
+/// The execution that a row makes, or the first cause why it makes none. `scratch` is room that a caller keeps from row to row.
 pub fn read_trade(
     columns: &TradeColumns,
     meanings: &TradeMeanings,
@@ -32,7 +31,7 @@ pub fn read_trade(
     Ok(trade_with(columns, meanings, roster, row, sym))
 }
 
-/// What a row makes whose symbol was looked for.
+/// The execution that a row makes, after its symbol was looked up.
 fn trade_with(
     columns: &TradeColumns,
     meanings: &TradeMeanings,
@@ -72,7 +71,7 @@ fn trade_with(
     let Some(millionths) = millionths_of(common.price_unit, columns.price.text(row)) else {
         return Err(TradeCause::BadPrice);
     };
-    let Some(shares) = some_shares_of(columns.shares.text(row)) else {
+    let Some(shares) = some_shares_of(without_zeros(0, columns.shares.text(row))) else {
         return Err(TradeCause::BadShares);
     };
     let deal = deal_of(meanings, columns.side.text(row))?;
@@ -91,14 +90,14 @@ fn trade_with(
     })
 }
 
-/// Whether the mapping lists words of rows to keep, and this is none of them.
+/// Whether the mapping lists words of rows to keep, and the word is none of them.
 fn is_unknown_word(meanings: &TradeMeanings, text: &[u8]) -> bool
     ensures { result ≡ is_unknown_word meanings.now text.now }
 {
     !meanings.kept.is_empty() && !is_listed(&meanings.kept, text)
 }
 
-/// Where a trade was executed: `None` off an exchange.
+/// The exchange on which a trade was executed; `None` off an exchange.
 fn venue_of(
     meanings: &TradeMeanings,
     roster: &Roster,
@@ -118,7 +117,7 @@ fn venue_of(
     }
 }
 
-/// Why a row makes no execution whose symbol is not on the roster.
+/// Why a row whose symbol is not on the roster makes no execution.
 fn no_symbol(meanings: &Meanings) -> TradeCause
     ensures { result ≡ no_symbol meanings.now }
 {

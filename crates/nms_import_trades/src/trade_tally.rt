@@ -12,17 +12,17 @@ pub struct TradeTally {
     pub executions: u64,
     /// Refused: fewer columns than the mapping names.
     pub too_few_columns: u64,
-    /// Refused: a name that is none.
+    /// Refused: a text that is no name.
     pub bad_name: u64,
-    /// Refused: no time of day.
+    /// Refused: a text that is no time of day.
     pub bad_time: u64,
     /// Refused: a participant that is not on the roster.
     pub unknown_participant: u64,
     /// Refused: a symbol that is not on the roster.
     pub unknown_symbol: u64,
-    /// Refused: a price that is none.
+    /// Refused: a text that is no price.
     pub bad_price: u64,
-    /// Refused: shares that are none.
+    /// Refused: a text that is no number of shares.
     pub bad_shares: u64,
     /// Refused: a side that the mapping does not list.
     pub unknown_side: u64,
@@ -45,18 +45,18 @@ pub struct TradeTally {
 /// The sums of the outcomes.
 #[derive(Clone, Copy)]
 pub struct TradeSums {
-    /// All rows.
+    /// The number of all rows.
     pub rows: u64,
-    /// Those that made an execution.
+    /// The number of rows that made an execution.
     pub executions: u64,
-    /// Those that were refused.
+    /// The number of rows that were refused.
     pub refused: u64,
-    /// Those that were skipped.
+    /// The number of rows that were skipped.
     pub skipped: u64,
 }
 
 impl TradeTally {
-    /// No rows.
+    /// The counts before any row.
     pub fn none() -> TradeTally
         ensures rows { rows_in result ≡ 0 }
         ensures executions { result.executions ≡ 0 }
@@ -90,7 +90,7 @@ impl TradeTally {
         self.executions += 1;
     }
 
-    /// Counts a row that made none.
+    /// Counts a row that made no execution, for a cause.
     pub(crate) fn count_cause(&mut self, cause: TradeCause)
         requires { rows_in self.old < 1000000000000 }
         ensures rows { rows_in self.new ≡ rows_in self.old + 1 }
@@ -115,8 +115,7 @@ impl TradeTally {
         }
     }
 
-    /// The sums: all rows are those that made an execution, those that were refused and those that were skipped. `None`
-    /// comes only of more than 2^64 - 1 rows.
+    /// The sums: each row made an execution, was refused or was skipped. `None` comes only if there are more than 2^64 - 1 rows.
     pub fn sums(&self) -> Option<TradeSums>
         ensures rows { IfSome result (λ sums. sums.rows ≡ rows_in self.now) }
         ensures parts { IfSome result (λ sums. (sums.executions ≡ self.now.executions) × (sums.refused ≡ refused_in self.now) × (sums.skipped ≡ skipped_in self.now)) }

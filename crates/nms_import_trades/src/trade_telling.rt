@@ -1,4 +1,4 @@
-//! What is printed of an import of trades: the rows that make no execution, and the counts (`specs/TradeTelling`).
+//! What is printed about an import of trades: the rows that make no execution, and the counts (`specs/TradeTelling`).
 ghost use Rattle.std.specs.Prelude.{◌≡◌, true};
 ghost use Rattle.std.specs.List.{list_all};
 ghost use Rattle.nms_show.specs.Plain.{is_own_plain, is_plain};
@@ -9,15 +9,16 @@ use crate::trade_cause::TradeCause;
 use crate::trade_columns::TradeColumns;
 use crate::trade_tally::{TradeSums, TradeTally};
 use csv::ByteRecord;
-use nms_import::{Column, MOST_TOLD, RowPlace, show_row};
+use nms_import::{Column, PriceUnit, RowPlace, Telling, most_of, no_time, show_row};
 use nms_show::{Form, Item, ShowFault, write_line};
 use std::io::Write;
 
-/// Where rows that make no execution are shown.
+/// The output on which rows that make no execution are shown.
 #[derive(Drop)]
 pub struct TradeTold<'a, E> {
-    /// Where they are shown.
+    /// The writer on which they are shown.
     pub errors: E,
+    telling: Telling,
     file: &'a str,
     line: u64,
     left: u64,
@@ -25,24 +26,25 @@ pub struct TradeTold<'a, E> {
 
 impl<'a, E: Write> TradeTold<'a, E> {
     ghost use Rattle.std.specs.Prelude.{◌≡◌, []};
-    ghost use Rattle.nms_import.specs.declared.TheConstants.{MOST_TOLD};
+    ghost use Rattle.nms_import.specs.Telling.{most_of};
     ghost use Rattle.nms_import_trades.specs.TradeTelling.{file_of, left_of};
 
-    /// On a writer, in no file yet.
-    pub fn new(errors: E) -> TradeTold<'a, E>
+    /// On a writer, in no file yet. As JSON all refused rows are shown, else the first 100 that make no execution.
+    pub fn new(telling: Telling, errors: E) -> TradeTold<'a, E>
         ensures writer { result.errors ≡ errors }
         ensures file { file_of result ≡ [] }
-        ensures left { left_of result ≡ MOST_TOLD }
+        ensures left { left_of result ≡ most_of telling }
     {
         TradeTold {
             errors,
+            telling,
             file: "",
             line: 0,
-            left: MOST_TOLD,
+            left: most_of(telling),
         }
     }
 
-    /// Goes on with a file.
+    /// Notes that the next rows are those of a file.
     pub fn enter(&mut self, file: &'a str)
         ensures writer { self.new.errors ≡ self.old.errors }
         ensures file { file_of self.new ≡ file.now }
@@ -51,7 +53,7 @@ impl<'a, E: Write> TradeTold<'a, E> {
         self.file = file;
     }
 
-    /// Goes on with the row that begins on a line, from 1.
+    /// Notes that the present row begins on a line, counted from 1.
     pub(crate) fn at(&mut self, line: u64)
         ensures writer { self.new.errors ≡ self.old.errors }
         ensures file { file_of self.new ≡ file_of self.old }
@@ -60,28 +62,29 @@ impl<'a, E: Write> TradeTold<'a, E> {
         self.line = line;
     }
 
-    /// Shows a row that makes no execution: its file, line, column and text, and the cause. The first 100 are shown. What
-    /// the writer does not take is dropped: the counts have each row.
+    /// Shows a row that makes no execution: its file, line, column and text, and the cause. As JSON a row that is skipped is not
+    /// shown. What the writer does not take is dropped: the counts have each row.
     pub(crate) fn tell(&mut self, columns: &TradeColumns, row: &ByteRecord, cause: TradeCause) {
         if self.left == 0 || matches!(cause, TradeCause::Trailer) {
             return;
         }
         self.left -= 1;
-        let what = if cause.skips() {
-            "skipped: "
-        } else {
-            "refused: "
-        };
-        show_row(
+        if cause.skips() && self.telling.form.is_json() {
+            return;
+        }
+        let what = if cause.skips() { "skipped" } else { "refused" };
+        let _ = show_row(
             &mut self.errors,
             RowPlace {
                 file: self.file,
                 line: self.line,
+                alloc: self.telling.alloc,
+                form: self.telling.form,
             },
             row,
             column_of(columns, cause),
             what,
-            sentence_of(cause),
+            sentence_of(self.telling, cause),
         );
     }
 }
@@ -103,17 +106,25 @@ fn column_of(columns: &TradeColumns, cause: TradeCause) -> Option<&Column> {
     }
 }
 
+/// What a price is that is none in a unit.
+fn no_price(unit: PriceUnit) -> &'static str {
+    match unit {
+        PriceUnit::Dollars => "no price above zero in dollars with at most six decimals",
+        PriceUnit::TenThousandths => "no price above zero in 1e-4 dollar",
+        PriceUnit::Nanodollars => "no price above zero in 1e-9 dollar, which ends in 000",
+    }
+}
+
 /// What a cause says.
-fn sentence_of(cause: TradeCause) -> &'static str {
+fn sentence_of(telling: Telling, cause: TradeCause) -> &'static str {
     match cause {
         TradeCause::TooFewColumns => "fewer columns than the mapping names",
         TradeCause::BadName =>
             "a name that is not 1 to 32 letters, digits, points, dashes or underscores",
-        TradeCause::BadTime => "no time of day of the mapping's form",
+        TradeCause::BadTime => no_time(telling.time_form, telling.zone),
         TradeCause::UnknownParticipant => "a participant that is not on the roster",
         TradeCause::UnknownSymbol | TradeCause::OtherSymbol => "a symbol that is not on the roster",
-        TradeCause::BadPrice =>
-            "no price above zero in the mapping's unit, or one of more than 6 decimals",
+        TradeCause::BadPrice => no_price(telling.price_unit),
         TradeCause::BadShares => "no number of shares from 1 to 999,999,999",
         TradeCause::UnknownSide => "a side that the mapping does not list",
         TradeCause::UnknownCondition => "a condition with a letter that the mapping does not list",
@@ -150,7 +161,7 @@ pub fn write_trade_tally<W: Write>(
     )
 }
 
-/// The counts that have lines of their own, each with what is said of it.
+/// The counts that have their own lines, each with its text.
 fn counts_of(tally: &TradeTally) -> [(u64, &'static str); 15]
     ensures { list_all (λ count. is_plain count.1.now) result ≡ true }
 {

@@ -20,7 +20,7 @@ pub record HasSent (settings : Settings) (machine : State) (sent : List Change) 
   pub counted : length records ≡ done
   pub changes : sent ≡ changes_in (sent_by events)
 
--- those are the records that were read, and the reader stands after them
+-- those are the records that were read, and the reader is after them
 pub record HasRead {R : Type 0} (remaining : R → Option (List ℕ)) (settings : Settings) (bytes : Option (List ℕ)) (reader : Reader R)
     (machine : State) (sent : List Change) (done : ℕ) : Type 0 where
   pub so_far : HasSent settings machine sent done

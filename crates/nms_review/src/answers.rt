@@ -1,11 +1,11 @@
-//! The output for answers, which are written in few and large pieces.
+//! The output for answers, which are written in a few large pieces.
 use std::alloc::{AllocError, Global};
 use std::io;
 use std::io::Write;
 
-/// The most bytes that are kept back.
+/// The most bytes that are kept before they are written.
 const ROOM: usize = 65_536;
-/// Whole lines are written out once there are at least this number of bytes.
+/// Complete lines are written out once they have at least this number of bytes.
 const ENOUGH: usize = 49_152;
 /// Removes the line of progress on the terminal.
 pub(crate) const ERASE: &str = "\r\x1b[K";
@@ -19,7 +19,7 @@ pub(crate) struct Answers<W> {
 }
 
 impl<W: Write> Answers<W> {
-    /// Over a writer. If it `erases`, a piece replaces the line of progress on the same terminal.
+    /// Answers over a writer. If it `erases`, a piece replaces the line of progress on the same terminal.
     pub(crate) fn new(alloc: Global, writer: W, erases: bool) -> Result<Self, AllocError>
     where
         W: Drop,

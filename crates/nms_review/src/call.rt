@@ -1,4 +1,4 @@
-//! A call that is served, and what every subcommand does with it: it opens and reads files, and looks up what words name.
+//! A call that is served, and what every subcommand does with it: it opens and reads files, and finds what arguments name.
 ghost use Rattle.std.specs.Prelude.{◌<◌, IfOk, IfSome, length};
 
 use crate::fault::{About, Fault};
@@ -17,7 +17,7 @@ use std::fs;
 use std::rt::Files;
 use std::time::Clock;
 
-/// What a call is served with.
+/// What a host has to offer, so that a call can be served.
 pub(crate) trait Host: AllocGlobal + Clock + Eprint + Files {}
 
 impl<T: AllocGlobal + Clock + Eprint + Files> Host for T {}
@@ -28,7 +28,7 @@ pub(crate) struct Call<'a, T> {
     pub(crate) rt: &'a T,
     pub(crate) screen: Screen,
     pub(crate) words: &'a Words<'a>,
-    /// The setup that the words name, or the built-in one.
+    /// The setup that the arguments name, or the built-in one.
     pub(crate) setup: &'a Setup,
 }
 
@@ -84,7 +84,7 @@ impl<'a, T: Host> Call<'a, T> {
         }
     }
 
-    /// The times of a text, which is that of a file.
+    /// The times in the text of a file.
     pub(crate) fn times_in(&self, text: &[u8], about: About) -> Result<Times, Fault> {
         read_times(self.alloc(), text).map_err(|fault| Fault::of_times(fault, about))
     }
@@ -98,7 +98,7 @@ impl<'a, T: Host> Call<'a, T> {
         Ok(Some(self.times_in(&text, file.about)?))
     }
 
-    /// The symbol of the setup that a word names.
+    /// The symbol of the setup that an argument names.
     pub(crate) fn sym(&self, symbol: Symbol<'_>) -> Result<Sym, Fault>
         ensures { IfOk result (λ sym. sym < length self.now.setup.now.roster.syms) }
     {
@@ -108,7 +108,7 @@ impl<'a, T: Host> Call<'a, T> {
         }
     }
 
-    /// The symbol of the setup that a word names, if there is one.
+    /// The symbol of the setup that an argument names, if there is one.
     pub(crate) fn sym_given(&self, symbol: Option<Symbol<'_>>) -> Result<Option<Sym>, Fault>
         ensures { IfOk result (λ given. IfSome given (λ sym. sym < length self.now.setup.now.roster.syms)) }
     {
@@ -121,7 +121,7 @@ impl<'a, T: Host> Call<'a, T> {
         }
     }
 
-    /// The feed of the setup that a letter names; A without one.
+    /// The feed of the setup that a letter names; A if there is no letter.
     pub(crate) fn feed(&self, letter: Option<&str>) -> Result<Feed, Fault> {
         match feed_named(letter.unwrap_or("A")) {
             Some(feed) if feed.place() < self.setup.feeds() => Ok(feed),

@@ -1,20 +1,22 @@
 //! The subcommand `compare`: compares a vendor's own national bests with those of a file of changes.
 
+use crate::answers::Answers;
 use crate::call::{Call, Host};
 use crate::fault::Fault;
+use crate::files::create_file;
 use crate::notices::refuse_map;
 use crate::request::Compare;
 use crate::vendor::{Rows, map_document, open_vendor};
 use nms_compare::{
-    CompareFault, Counts, Keyed, NationalMapping, Shown, compare_rows, keys_of,
-    national_mapping_of, write_counts,
+    CompareFault, Counts, Keyed, NationalMapping, Showing, Shown, Sums, Vendor, compare_rows,
+    keys_of, national_mapping_of, write_counts, write_counts_object,
 };
 use nms_import::Kind;
-use nms_show::Ending;
+use nms_show::{Ending, Form};
 use std::alloc::Global;
 use std::io::Write;
 
-/// Compares a vendor's national bests with those of a file of changes. It is doubted if a row differs or is malformed.
+/// Compares a vendor's national bests with those of a file of changes. The comparison is doubted if a row differs or is malformed.
 pub(crate) fn serve_compare<T: Host, W: Write>(
     call: &Call<'_, T>,
     compare: &Compare<'_>,
@@ -31,7 +33,7 @@ pub(crate) fn serve_compare<T: Host, W: Write>(
     }
 }
 
-/// Compares by a mapping: reads the times and the changes first.
+/// Compares by a mapping. It reads the times and the changes first.
 fn compare_by<T: Host, W: Write>(
     call: &Call<'_, T>,
     compare: &Compare<'_>,
@@ -63,21 +65,70 @@ fn compare_with<T: Host, W: Write>(
         Ok(vendor) => vendor,
         Err(fault) => return refuse_map(call, compare.national, Kind::Bests, &fault),
     };
-    let mut shown = Shown::new(answers, compare.national.name);
-    let compared = compare_rows(call.alloc(), &vendor, keyed, &mut rows.reader, &mut shown);
-    match compared {
-        Ok(counts) => tell_counts(&counts, compare, answers),
+    let showing = Showing {
+        alloc: call.alloc(),
+        form: call.form(),
+        all: false,
+    };
+    let Some(file) = compare.refused else {
+        let (counts, sums) = compare_on(call, compare, showing, &vendor, keyed, rows, answers)?;
+        return tell_counts(call, &counts, &sums, compare, answers);
+    };
+    let created = create_file(call, file.name, file.about)?;
+    let mut out = match Answers::new(call.alloc(), created, false) {
+        Ok(out) => out,
+        Err(_) => return Err(Fault::no_memory()),
+    };
+    let filed = Showing {
+        alloc: call.alloc(),
+        form: Form::Json,
+        all: true,
+    };
+    let compared = compare_on(call, compare, filed, &vendor, keyed, rows, &mut out);
+    if out.flush().is_err() {
+        return Err(Fault::unwritten(file.about));
+    }
+    let (counts, sums) = compared?;
+    tell_counts(call, &counts, &sums, compare, answers)
+}
+
+/// Compares the rows, and shows on a writer those that are not equal.
+fn compare_on<T: Host, W: Write>(
+    call: &Call<'_, T>,
+    compare: &Compare<'_>,
+    showing: Showing,
+    vendor: &Vendor<'_>,
+    keyed: &Keyed<'_>,
+    rows: &mut Rows<'_, T, T::File>,
+    out: &mut W,
+) -> Result<(Counts, Sums), Fault> {
+    let symbols = call.setup.roster().syms();
+    let mut shown = match Shown::new(showing, out, compare.national.name, symbols) {
+        Ok(shown) => shown,
+        Err(fault) => return Err(fault_in(fault, compare)),
+    };
+    match compare_rows(call.alloc(), vendor, keyed, &mut rows.reader, &mut shown) {
+        Ok(counts) => Ok((counts, shown.into_sums())),
         Err(fault) => Err(fault_in(fault, compare)),
     }
 }
 
-/// Writes the counts. A comparison is doubted if a row differs or is malformed.
-fn tell_counts<W: Write>(
+/// Writes the sums and the counts. A comparison is doubted if a row differs or is malformed.
+fn tell_counts<T: Host, W: Write>(
+    call: &Call<'_, T>,
     counts: &Counts,
+    sums: &Sums,
     compare: &Compare<'_>,
     answers: &mut W,
 ) -> Result<Ending, Fault> {
-    match write_counts(answers, counts) {
+    sums.write(answers, call.setup.roster(), call.form())
+        .map_err(|fault| fault_in(fault, compare))?;
+    let written = if call.form().is_json() {
+        write_counts_object(call.alloc(), answers, counts)
+    } else {
+        write_counts(answers, counts)
+    };
+    match written {
         Ok(()) if counts.has_doubts() => Ok(Ending::Doubted),
         Ok(()) => Ok(Ending::Done),
         Err(fault) => Err(fault_in(fault, compare)),

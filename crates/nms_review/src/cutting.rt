@@ -1,4 +1,4 @@
-//! The option `--shards` of `import`: a market's rows, sorted by symbol, are cut to shards, four files each.
+//! The option `--shards` of `import`. It cuts a market's rows, sorted by symbol, into shards of four files each.
 ghost use Rattle.std.specs.Prelude.{◌≤◌};
 ghost use Rattle.nms_shards.specs.declared.TheConstants.{LEAST_LIMIT};
 
@@ -6,7 +6,7 @@ use crate::answers::Answers;
 use crate::call::{Call, Host};
 use crate::fault::{About, Fault, Output};
 use crate::importing::{Kept, too_long};
-use crate::notices::{refuse_columns, refuse_map, show_kept};
+use crate::notices::{refuse_columns, refuse_map};
 use crate::outputs::{SHARD, check_outputs, create, flush, publish_shards, remove_parts};
 use crate::request::{Import, Path};
 use crate::vendor::{Rows, fault_in, open_vendor};
@@ -19,12 +19,12 @@ use nms_show::{Ending, Form, Item, SafeText, write_line};
 use std::alloc::AllocError;
 use std::io::Write;
 
-/// The shard that is being written, and what is kept from one of the vendor's files to the next.
+/// The shard that is being written, and what is kept from one of the vendor's files for the next.
 #[derive(Drop)]
 struct Shards<'a, T, F> {
     call: &'a Call<'a, T>,
     import: &'a Import<'a>,
-    kept: Kept<'a>,
+    kept: Kept<'a, F>,
     cutting: Cutting,
     changes: Answers<F>,
     times: Answers<F>,
@@ -36,7 +36,7 @@ struct Shards<'a, T, F> {
     openings: u64,
 }
 
-/// Cuts the rows of the files to shards, and reports the counts.
+/// Cuts the rows of the files into shards, and reports the counts.
 pub(crate) fn cut_files<T: Host, W: Write>(
     call: &Call<'_, T>,
     import: &Import<'_>,
@@ -85,7 +85,7 @@ fn begin<'a, T: Host>(
 {
     let changes = create(call, import.out, of_shard(1, ".changes"))?;
     let times = create(call, import.out, of_shard(1, ".times"))?;
-    let kept = match Kept::new(call.alloc(), mapping, 1) {
+    let kept = match Kept::new(call, import, mapping, 1) {
         Ok(kept) => kept,
         Err(fault) => return Err(fault),
     };
@@ -114,13 +114,14 @@ impl<'a, T: Host> Shards<'a, T, T::File> {
             let mut rows = open_vendor(call, *file, self.kept.mapping.file)?;
             let taken = self.take_rows(*file, &mut rows);
             rows.close();
-            show_kept(call, &mut self.kept.told.errors);
+            self.kept.told.errors.show(call);
             let ending = taken?;
             if !matches!(ending, Ending::Done) {
                 return Ok(ending);
             }
         }
         self.finish_shard()?;
+        self.kept.told.errors.finish()?;
         publish_shards(call, import.out, self.shards)?;
         write_shards(self.shards, self.openings, answers)?;
         self.kept.report(call, import, answers)
@@ -229,7 +230,7 @@ impl<'a, T: Host> Shards<'a, T, T::File> {
     }
 }
 
-/// A file of a shard.
+/// The file of a shard with the given end of its name.
 fn of_shard(shard: u64, end: &'static str) -> Output {
     Output { shard, end }
 }
@@ -239,7 +240,7 @@ fn sum_of(count: u64, more: u64) -> Result<u64, Fault> {
     count.checked_add(more).ok_or(too_long())
 }
 
-/// Writes a text to its file, if memory sufficed for it.
+/// Writes a text to its file, if there was memory for it.
 fn finish<W: Write>(
     file: &mut W,
     output: Output,

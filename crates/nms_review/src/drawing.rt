@@ -1,4 +1,4 @@
-//! The subcommand `draw`: which versions a page shows, and with what.
+//! The subcommand `draw`: which versions a page shows, and with what else.
 use crate::call::{Call, Host};
 use crate::fault::{About, Fault};
 use crate::paging::{made_of, page_fault};
@@ -63,7 +63,7 @@ pub(crate) fn serve_draw<T: Host, W: Write>(
     }
 }
 
-/// The name of a file; nothing without one.
+/// The name of a file; empty if there is none.
 fn name_of<'a>(file: Option<Path<'a>>) -> &'a str {
     match file {
         Some(file) => file.name,
@@ -122,7 +122,7 @@ fn draw_trades<T: Host, W: Write>(
     changes.ended(executions.ended(served))
 }
 
-/// What names the last version that is drawn.
+/// The argument that names the last version that is drawn.
 fn last_of(draw: &Draw<'_>) -> About {
     if matches!(draw.to, Ok(None)) {
         About::Value("from")
@@ -131,7 +131,7 @@ fn last_of(draw: &Draw<'_>) -> About {
     }
 }
 
-/// A fault of a drawing, in what names its version, or in the file of changes, the plan or the times.
+/// A fault of a drawing. It is about what names its version, or about the file of changes, the plan or the times.
 pub(crate) fn drawing_fault(fault: DrawingFault, version: About, changes: About) -> Fault {
     let about = match fault {
         DrawingFault::VersionBeyondTape => version,
@@ -145,7 +145,7 @@ pub(crate) fn drawing_fault(fault: DrawingFault, version: About, changes: About)
     Fault::of(fault.code(), about)
 }
 
-/// The versions that are shown, and what the page counts. With a file of symbols they are at most those of the symbol.
+/// The versions that are shown, and what the page counts. If there is a file of symbols, they are at most those of the symbol.
 fn frame_of<'a, T: Host>(
     call: &Call<'_, T>,
     draw: &Draw<'_>,
@@ -175,7 +175,7 @@ fn frame_of<'a, T: Host>(
     })
 }
 
-/// The first and the last version of the symbol, by the file of symbols; without one, those of the changes.
+/// The first and the last version of the symbol, by the file of symbols. Without such a file, those of the changes.
 fn span_drawn<T: Host>(
     call: &Call<'_, T>,
     draw: &Draw<'_>,
@@ -205,7 +205,7 @@ fn end_of<T: Host>(
     }
 }
 
-/// The time by which a version is found, if it is found by one.
+/// The time of a version that is found by time.
 fn time_of(given: &Result<Option<Version>, Fault>) -> Option<TimeOfDay> {
     match given {
         Ok(Some(Version::At { time, .. })) => Some(*time),
@@ -213,7 +213,7 @@ fn time_of(given: &Result<Option<Version>, Fault>) -> Option<TimeOfDay> {
     }
 }
 
-/// The sooner of two versions, or the one that there is.
+/// The earlier of two versions, or the only one.
 fn sooner(one: Option<u64>, other: Option<u64>) -> Option<u64> {
     match (one, other) {
         (Some(one), Some(other)) => Some(one.min(other)),

@@ -104,7 +104,7 @@ fn serve_executions<T: Host, W: Write>(
     )
 }
 
-/// The executions of a text that are refused. Without times any number of changes may be there, and a time is refused.
+/// The executions of a text that are refused. Without times there may be any number of changes, and a time is refused.
 fn refused_in<T: Host>(
     call: &Call<'_, T>,
     explain: &Explain<'_>,
@@ -129,7 +129,7 @@ fn refused_in<T: Host>(
     }
 }
 
-/// The refused ones among records, with their codes.
+/// The refused records, with their codes.
 fn refused_of(alloc: Global, records: &Records) -> Result<Vec<RefusedExecution>, AllocError> {
     let mut refused = Vec::new(alloc);
     for refusal in &records.refused {

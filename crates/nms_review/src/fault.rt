@@ -9,24 +9,24 @@ use std::io;
 pub(crate) struct Fault {
     /// The code, or `usage`.
     pub(crate) code: Code,
-    /// What it is about.
+    /// The argument or file that the fault is about.
     pub(crate) about: About,
     /// The system's reason, if a file could not be read.
     pub(crate) cause: Option<io::Error>,
-    /// The form expected of a word.
+    /// The form that is expected of an argument.
     pub(crate) expected: &'static str,
-    /// The line of a file that it is about, from 1.
+    /// The line of a file that the fault is about, counted from 1.
     pub(crate) line: Option<u64>,
 }
 
-/// The word that a fault is about.
+/// The argument that a fault is about.
 #[derive(Clone, Copy)]
 pub(crate) enum About {
-    /// No word of the call.
+    /// The fault is about no argument of the call.
     Nothing,
-    /// The subcommand's own word at that place, from 0.
+    /// The subcommand's own argument at that place, counted from 0.
     Word(usize),
-    /// The value of the option of that name.
+    /// The value of the option with that name.
     Value(&'static str),
     /// A file that is written under the value of `--out`.
     Out(Output),
@@ -35,14 +35,14 @@ pub(crate) enum About {
 /// A file that is written: `NAME` of `--out`, the number of its shard and an end.
 #[derive(Clone, Copy)]
 pub(crate) struct Output {
-    /// The number of its shard, 0 if there are no shards.
+    /// The number of the file's shard, 0 if there are no shards.
     pub(crate) shard: u64,
-    /// What its name ends with; nothing if it is one of several.
+    /// The end of the file's name; empty if it is one of several.
     pub(crate) end: &'static str,
 }
 
 impl Fault {
-    /// A fault of the library, in the file that a word names.
+    /// A fault of the library, in the file that an argument names.
     ///
     /// Faults of memory and of the output are not about a file.
     pub(crate) fn of(code: Code, about: About) -> Self {
@@ -56,7 +56,7 @@ impl Fault {
         }
     }
 
-    /// A fault of times, in the file that a word names.
+    /// A fault of times, in the file that an argument names.
     pub(crate) fn of_times(fault: TimesFault, about: About) -> Self {
         Fault {
             line: fault.line(),
@@ -88,7 +88,7 @@ impl Fault {
         Fault::of(Code::E4, About::Nothing)
     }
 
-    /// The same fault; E2 is about this output.
+    /// The same fault, but E2 is about this output.
     pub(crate) fn in_output(self, output: Output) -> Self {
         if self.code == Code::E2 {
             Fault::unwritten(About::Out(output))
@@ -97,7 +97,7 @@ impl Fault {
         }
     }
 
-    /// The same fault. If a file could not be read to its end, E1 has the system's reason.
+    /// The same fault. If a file could not be read to its end, E1 gets the system's reason.
     pub(crate) fn with_reason(self, failed: Option<io::Error>) -> Self {
         match failed {
             Some(error) if self.code == Code::E1 => Fault::unread(error, self.about),
@@ -105,7 +105,7 @@ impl Fault {
         }
     }
 
-    /// A word that is not of its form.
+    /// An argument that does not have the form that it must have.
     pub(crate) fn usage(about: About, expected: &'static str) -> Self {
         Fault {
             expected,

@@ -1,13 +1,13 @@
 //! The subcommand `import`: reads a vendor's files one after another, and writes their changes to three files.
+use crate::adding::import_added;
 use crate::answers::Answers;
 use crate::call::{Call, Host};
 use crate::cutting::cut_files;
 use crate::fault::{About, Fault, Output};
 use crate::importing_trades::serve_trade_map;
-use crate::notices::{
-    note_built_in, note_odd_hours, note_short, refuse_columns, refuse_map, show_kept,
-};
+use crate::notices::{note_odd_hours, note_setup, note_short, refuse_columns, refuse_map};
 use crate::outputs::{QUOTES, check_outputs, create, flush, publish, remove_parts};
+use crate::refused_rows::{RefusedRows, refused_rows};
 use crate::request::{Import, Path};
 use crate::vendor::{Rows, fault_in, map_document, open_vendor};
 use nms_codes::Code;
@@ -17,7 +17,6 @@ use nms_import::{
 };
 use nms_import_trades::is_of_trades;
 use nms_show::Ending;
-use std::alloc::Global;
 use std::io::Write;
 
 const CHANGES: Output = Output {
@@ -35,7 +34,7 @@ const SYMBOLS: Output = Output {
     end: ".symbols",
 };
 
-/// Makes changes, or executions, of a vendor's files. The written files are whole also if a guard reports a doubt. After a
+/// Makes changes, or executions, from a vendor's files. The written files are complete even if a guard reports a doubt. After a
 /// failure the files of an earlier import are as they were.
 pub(crate) fn serve_import<T: Host, W: Write>(
     call: &Call<'_, T>,
@@ -56,27 +55,29 @@ pub(crate) fn serve_import<T: Host, W: Write>(
     }
 }
 
-/// What is kept of rows of quotes from one file to the next.
+/// What is kept about rows of quotes from one file to the next.
 #[derive(Drop)]
-pub(crate) struct Kept<'a> {
+pub(crate) struct Kept<'a, F> {
     pub(crate) mapping: &'a Mapping,
     pub(crate) notes: Notes,
-    pub(crate) told: Told<'a, Vec<u8>>,
+    pub(crate) told: Told<'a, RefusedRows<F>>,
     pub(crate) tally: Tally,
 }
 
-impl<'a> Kept<'a> {
+impl<'a, F: Write + Drop> Kept<'a, F> {
     /// Of no rows, with room for n symbols.
-    pub(crate) fn new(
-        alloc: Global,
+    pub(crate) fn new<T: Host<File = F>>(
+        call: &Call<'_, T>,
+        import: &Import<'_>,
         mapping: &'a Mapping,
         symbols: usize,
-    ) -> Result<Kept<'a>, Fault> {
-        match Notes::of_symbols(alloc, symbols, mapping.order, mapping.file.count) {
+    ) -> Result<Kept<'a, F>, Fault> {
+        let (telling, rows) = refused_rows(call, import, &mapping.meanings)?;
+        match Notes::of_symbols(call.alloc(), symbols, mapping.order, mapping.file.count) {
             Ok(notes) => Ok(Kept {
                 mapping,
                 notes,
-                told: Told::new(Vec::new(alloc)),
+                told: Told::new(telling, rows),
                 tally: Tally::none(),
             }),
             Err(_) => Err(Fault::no_memory()),
@@ -129,7 +130,8 @@ impl<'a> Kept<'a> {
             import.map.about,
         ))?;
         if tally.unknown_participant > 0 || tally.unknown_symbol > 0 || tally.other_symbol > 0 {
-            note_built_in(call, import)?;
+            let some_refused = tally.unknown_participant > 0 || tally.unknown_symbol > 0;
+            note_setup(call, import, some_refused)?;
         }
         if notes.are_hours_odd() {
             note_odd_hours(call)?;
@@ -141,17 +143,17 @@ impl<'a> Kept<'a> {
     }
 }
 
-/// More rows than are counted.
+/// The fault that there are more rows than can be counted.
 pub(crate) fn too_long() -> Fault {
     fault_in(ImportFault::TooLong, About::Word(1))
 }
 
-/// Changes that are made in three files.
+/// The three files in which changes are written, and what is kept between the vendor's files.
 #[derive(Drop)]
 struct Quotes<'a, T, F> {
     call: &'a Call<'a, T>,
     import: &'a Import<'a>,
-    kept: Kept<'a>,
+    kept: Kept<'a, F>,
     work: Work,
     changes: Answers<F>,
     times: Answers<F>,
@@ -168,13 +170,27 @@ fn import_quotes<T: Host, W: Write>(
     if import.shards {
         return cut_files(call, import, mapping, answers);
     }
+    if import.adds {
+        return import_added(call, import, mapping, answers);
+    }
     check_outputs(call, import.out, 0, &QUOTES)?;
-    let ended = match begin(call, import, mapping) {
-        Ok(mut quotes) => quotes.run(answers),
-        Err(fault) => Err(fault),
-    };
+    let ended = import_under(call, import, mapping, &QUOTES, answers);
     remove_parts(call, import.out, 0, &QUOTES);
     ended
+}
+
+/// Makes changes under the setup of the call, and gives the files of `ends` their names.
+pub(crate) fn import_under<T: Host, W: Write>(
+    call: &Call<'_, T>,
+    import: &Import<'_>,
+    mapping: &Mapping,
+    ends: &[&'static str],
+    answers: &mut W,
+) -> Result<Ending, Fault> {
+    match begin(call, import, mapping) {
+        Ok(mut quotes) => quotes.run(ends, answers),
+        Err(fault) => Err(fault),
+    }
 }
 
 /// Makes the three files.
@@ -186,7 +202,7 @@ fn begin<'a, T: Host>(
     let changes = create(call, import.out, CHANGES)?;
     let times = create(call, import.out, TIMES)?;
     let symbols = create(call, import.out, SYMBOLS)?;
-    match Kept::new(call.alloc(), mapping, call.setup.roster().syms()) {
+    match Kept::new(call, import, mapping, call.setup.roster().syms()) {
         Ok(kept) => Ok(Quotes {
             call,
             import,
@@ -202,13 +218,13 @@ fn begin<'a, T: Host>(
 
 impl<'a, T: Host> Quotes<'a, T, T::File> {
     /// Makes changes of all files, writes the symbols, and reports the counts and the doubts about the import.
-    fn run<W: Write>(&mut self, answers: &mut W) -> Result<Ending, Fault> {
+    fn run<W: Write>(&mut self, ends: &[&'static str], answers: &mut W) -> Result<Ending, Fault> {
         let (call, import) = (self.call, self.import);
         for file in &import.files {
             let mut rows = open_vendor(call, *file, self.kept.mapping.file)?;
             let taken = self.take_rows(*file, &mut rows);
             rows.close();
-            show_kept(call, &mut self.kept.told.errors);
+            self.kept.told.errors.show(call);
             let ending = taken?;
             if !matches!(ending, Ending::Done) {
                 return Ok(ending);
@@ -220,11 +236,12 @@ impl<'a, T: Host> Quotes<'a, T, T::File> {
         flush(&mut self.changes, CHANGES)?;
         flush(&mut self.times, TIMES)?;
         flush(&mut self.symbols, SYMBOLS)?;
-        publish(call, import.out, &QUOTES)?;
+        self.kept.told.errors.finish()?;
+        publish(call, import.out, ends)?;
         self.kept.report(call, import, answers)
     }
 
-    /// Makes changes of the rows of a file.
+    /// Makes changes from the rows of a file.
     fn take_rows(
         &mut self,
         file: Path<'a>,
@@ -262,7 +279,7 @@ impl<'a, T: Host> Quotes<'a, T, T::File> {
     }
 }
 
-/// The code of what an import is doubted for.
+/// The code of the reason for which an import is doubted.
 fn code_of(guard: Guard) -> Code {
     match guard {
         Guard::MostRefused => Code::I1,

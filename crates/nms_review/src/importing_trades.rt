@@ -4,8 +4,9 @@ use crate::answers::Answers;
 use crate::call::{Call, Host};
 use crate::fault::{About, Fault, Output};
 use crate::importing::too_long;
-use crate::notices::{note_built_in, note_short, refuse_columns, refuse_map, show_kept};
+use crate::notices::{note_setup, note_short, refuse_columns, refuse_map};
 use crate::outputs::{TRADES, check_outputs, create, flush, publish, remove_parts};
+use crate::refused_rows::{RefusedRows, refused_rows};
 use crate::request::{Import, Path};
 use crate::vendor::{Rows, fault_in, open_vendor};
 use nms_codes::Code;
@@ -22,7 +23,7 @@ const EXECUTIONS: Output = Output {
     end: ".executions",
 };
 
-/// Executions that are made in one file, and what is kept from one of the vendor's files to the next.
+/// The file in which executions are written, and what is kept from one of the vendor's files for the next.
 #[derive(Drop)]
 struct Executions<'a, T, F> {
     call: &'a Call<'a, T>,
@@ -30,21 +31,21 @@ struct Executions<'a, T, F> {
     mapping: &'a TradeMapping,
     executions: Answers<F>,
     work: TradeWork,
-    told: TradeTold<'a, Vec<u8>>,
+    told: TradeTold<'a, RefusedRows<F>>,
     tally: TradeTally,
 }
 
-/// Makes executions of a vendor's files, by the mapping of a document.
+/// Makes executions from a vendor's files, by the mapping of a document.
 pub(crate) fn serve_trade_map<T: Host, W: Write>(
     call: &Call<'_, T>,
     import: &Import<'_>,
     document: &Table,
     answers: &mut W,
 ) -> Result<Ending, Fault> {
-    if import.rows || import.shards {
+    if import.rows || import.shards || import.adds {
         return Err(Fault::usage(
             About::Nothing,
-            "a mapping of trades takes no --rows and no --shards",
+            "a mapping of trades takes no --rows, no --shards and no --add-symbols",
         ));
     }
     match trade_mapping_of(call.alloc(), document) {
@@ -75,14 +76,15 @@ fn begin<'a, T: Host>(
     import: &'a Import<'a>,
     mapping: &'a TradeMapping,
 ) -> Result<Executions<'a, T, T::File>, Fault> {
-    match create(call, import.out, EXECUTIONS) {
-        Ok(executions) => Ok(Executions {
+    let executions = create(call, import.out, EXECUTIONS)?;
+    match refused_rows(call, import, &mapping.meanings.common) {
+        Ok((telling, rows)) => Ok(Executions {
             call,
             import,
             mapping,
             executions,
             work: TradeWork::new(call.alloc(), mapping.file.count),
-            told: TradeTold::new(Vec::new(call.alloc())),
+            told: TradeTold::new(telling, rows),
             tally: TradeTally::none(),
         }),
         Err(fault) => Err(fault),
@@ -90,26 +92,28 @@ fn begin<'a, T: Host>(
 }
 
 impl<'a, T: Host> Executions<'a, T, T::File> {
-    /// Makes executions of all files, and reports the counts and the doubts about the import.
+    /// Makes executions from all files, and reports the counts and the doubts about the import.
     fn run<W: Write>(&mut self, answers: &mut W) -> Result<Ending, Fault> {
         let (call, import) = (self.call, self.import);
         for file in &import.files {
             let mut rows = open_vendor(call, *file, self.mapping.file)?;
             let taken = self.take_rows(*file, &mut rows);
             rows.close();
-            show_kept(call, &mut self.told.errors);
+            self.told.errors.show(call);
             let ending = taken?;
             if !matches!(ending, Ending::Done) {
                 return Ok(ending);
             }
         }
         flush(&mut self.executions, EXECUTIONS)?;
+        self.told.errors.finish()?;
         publish(call, import.out, &TRADES)?;
         let sums = self.sums()?;
         let tally = &self.tally;
         write_trade_tally(answers, tally, &sums)?;
         if tally.unknown_participant > 0 || tally.unknown_symbol > 0 || tally.other_symbol > 0 {
-            note_built_in(call, import)?;
+            let some_refused = tally.unknown_participant > 0 || tally.unknown_symbol > 0;
+            note_setup(call, import, some_refused)?;
         }
         match doubt_of(&sums, self.work.lasts.short) {
             Some(code) => Err(Fault::of(code, About::Nothing)),
@@ -125,7 +129,7 @@ impl<'a, T: Host> Executions<'a, T, T::File> {
         }
     }
 
-    /// Makes executions of the rows of a file.
+    /// Makes executions from the rows of a file.
     fn take_rows(
         &mut self,
         file: Path<'a>,
@@ -158,8 +162,8 @@ impl<'a, T: Host> Executions<'a, T, T::File> {
     }
 }
 
-/// What the import is doubted for, the first that holds: most rows were refused, a last line is absent or counts other rows, or no
-/// row made an execution.
+/// The first reason for which the import is doubted. Most rows were refused; or a last line is absent or counts other rows; or
+/// no row made an execution.
 fn doubt_of(sums: &TradeSums, is_short: bool) -> Option<Code> {
     if sums.refused > sums.rows / 2 {
         Some(Code::I1)

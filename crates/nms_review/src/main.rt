@@ -1,6 +1,7 @@
-//! The reviewer's program: explains to people what the quote board refused, answered and planned.
+//! The reviewer's program, which explains to people what the quote board refused, answered and planned.
 #![tactic(auto)]
 
+mod adding;
 mod answers;
 mod call;
 mod comparing;
@@ -15,6 +16,7 @@ mod notices;
 mod outputs;
 mod paging;
 mod progress;
+mod refused_rows;
 mod request;
 mod screen;
 mod serving;
@@ -50,14 +52,31 @@ fn main(rt: HostRuntime) -> ExitCode {
             "/dev/null could not be opened",
         ));
     }
+    let is_dumb = is_dumb(&rt);
     let screen = Screen {
-        answers: rt.stdout().is_terminal(),
-        errors: rt.stderr().is_terminal(),
+        answers: rt.stdout().is_terminal() && !is_dumb && !wants_no_colours(&rt),
+        errors: rt.stderr().is_terminal() && !is_dumb,
     };
     ExitCode::from(answer_words(&rt, screen, &mut rt.stderr()))
 }
 
-/// Serves the process's own words, and gives the exit status.
+/// Whether `NO_COLOR` has a text, which means that the user wants no colours.
+fn wants_no_colours<T: Host + Env>(rt: &T) -> bool {
+    match env::var(rt, "NO_COLOR") {
+        Ok(text) => !text.is_empty(),
+        Err(_) => false,
+    }
+}
+
+/// Whether the terminal shows no escapes.
+fn is_dumb<T: Host + Env>(rt: &T) -> bool {
+    match env::var(rt, "TERM") {
+        Ok(name) => name.as_str() == "dumb",
+        Err(_) => false,
+    }
+}
+
+/// Serves the arguments of the process, and gives the exit status.
 fn answer_words<T: Host + Env + Print, E: Write>(rt: &T, screen: Screen, errors: &mut E) -> u8 {
     let own = match own_words(rt) {
         Ok(own) => own,
@@ -70,7 +89,7 @@ fn answer_words<T: Host + Env + Print, E: Write>(rt: &T, screen: Screen, errors:
     }
 }
 
-/// Serves these words, and gives the exit status.
+/// Serves the given arguments, and gives the exit status.
 fn answer<T: Host + Print, E: Write>(rt: &T, screen: Screen, words: &[&str], errors: &mut E) -> u8 {
     match read_words(rt.alloc(), words) {
         Ok(words) => match serve_whole(rt, screen, &words) {
@@ -83,7 +102,7 @@ fn answer<T: Host + Print, E: Write>(rt: &T, screen: Screen, words: &[&str], err
     }
 }
 
-/// Serves what the words ask for, and writes out all answers, also if it could not be served to its end.
+/// Serves what the arguments ask for, and writes out all answers, even if the serving failed.
 fn serve_whole<T: Host + Print>(
     rt: &T,
     screen: Screen,
@@ -108,8 +127,8 @@ fn tell_help<T: Print, E: Write>(rt: &T, help: &str, errors: &mut E) -> u8 {
     }
 }
 
-/// Prints on standard error why the parser refuses the words, and gives the status. It quotes words of the call, so each line
-/// is written with escapes, as a line of a file is.
+/// Prints on standard error why the parser refuses the arguments, and gives the status. The text quotes arguments of the call,
+/// so each line is written with escapes, as a line of a file is.
 fn tell_refusal<E: Write>(errors: &mut E, text: &str) -> u8 {
     let bytes = text.as_bytes();
     let lines = bytes.strip_suffix(b"\n").unwrap_or(bytes);
@@ -127,7 +146,7 @@ fn tell_code<E: Write>(errors: &mut E, code: Code) -> u8 {
     tell_early(errors, code, code.sentence())
 }
 
-/// As `tell_code`, with another sentence. If standard error does not take it, the status stays.
+/// As `tell_code`, with another sentence. If standard error does not take it, the status is the same.
 fn tell_early<E: Write>(errors: &mut E, code: Code, sentence: &str) -> u8 {
     let items = [
         Item::Text("nms_review: "),
@@ -139,7 +158,7 @@ fn tell_early<E: Write>(errors: &mut E, code: Code, sentence: &str) -> u8 {
     code.status()
 }
 
-/// Words as they are lent; `None` if out of memory.
+/// The arguments as borrowed texts; `None` if out of memory.
 fn words_of<'a>(alloc: Global, own: &'a [String]) -> Option<Vec<&'a str>> {
     let mut words = Vec::new(alloc);
     for word in own {
@@ -148,7 +167,7 @@ fn words_of<'a>(alloc: Global, own: &'a [String]) -> Option<Vec<&'a str>> {
     Some(words)
 }
 
-/// The words after the program's name, or why there are none.
+/// The arguments after the program's name, or why there are none.
 fn own_words<T: AllocGlobal + Env>(rt: &T) -> Result<Vec<String>, ErrorKind> {
     let all = env::args(rt).map_err(|error| error.kind())?;
     let mut words = Vec::new(rt.alloc());

@@ -12,8 +12,8 @@ use std::str;
 /// The most names of columns that are shown.
 const MOST_NAMES: usize = 40;
 
-/// Reports why a mapping of a kind is refused, in the file that has it or lacks its columns: its table, its key and what is
-/// expected there.
+/// Reports why a mapping of a kind is refused, in the file that has the mapping or lacks its columns. It shows the table, the
+/// key and what is expected there.
 pub(crate) fn refuse_map<T: Host>(
     call: &Call<'_, T>,
     file: Path<'_>,
@@ -85,7 +85,7 @@ fn show_wrong<'x, T: Host>(
     show_line(call, &items)
 }
 
-/// Reports a file without the columns that its mapping names, and those that its first line has.
+/// Reports a file that lacks the columns that its mapping names, and the columns that its first line has.
 pub(crate) fn refuse_columns<T: Host>(
     call: &Call<'_, T>,
     file: Path<'_>,
@@ -112,7 +112,7 @@ pub(crate) fn refuse_columns<T: Host>(
     Ok(ending)
 }
 
-/// Shows the first file without a last line that counts its rows, if the mapping names the count.
+/// Shows the first file that has no last line with the count of its rows, if the mapping names the count.
 pub(crate) fn note_short<T: Host>(
     call: &Call<'_, T>,
     file: Path<'_>,
@@ -131,20 +131,36 @@ pub(crate) fn note_short<T: Host>(
     )
 }
 
-/// Says that the setup is the built-in one, if no other was named: rows of names that are not on its roster made nothing.
-pub(crate) fn note_built_in<T: Host>(call: &Call<'_, T>, import: &Import<'_>) -> Result<(), Fault> {
-    if import.has_setup {
-        return Ok(());
-    }
-    let text =
+/// Says which setup was used, as rows of names that are not on its roster made nothing: the built-in one, or another one if some of
+/// these rows were refused.
+pub(crate) fn note_setup<T: Host>(
+    call: &Call<'_, T>,
+    import: &Import<'_>,
+    some_refused: bool,
+) -> Result<(), Fault> {
+    let built_in =
         "nms_review: no --setup was given: the built-in setup has only N, P, Y, Z and ABC, PNY";
+    match import.setup {
+        None => show_line(call, &[Item::Text(built_in)]),
+        Some(setup) if some_refused => {
+            let words = "nms_review: participants and symbols are those of the setup ";
+            show_line(call, &[Item::Text(words), Item::Bytes(setup.as_bytes())])
+        }
+        Some(_) => Ok(()),
+    }
+}
+
+/// Says that a setup takes no more symbols.
+pub(crate) fn note_full<T: Host>(call: &Call<'_, T>) -> Result<(), Fault> {
+    let text =
+        "nms_review: the setup has 1,000 symbols, and rows of others are not read: see --shards";
     show_line(call, &[Item::Text(text)])
 }
 
 /// Warns of times at which no market is open.
 pub(crate) fn note_odd_hours<T: Host>(call: &Call<'_, T>) -> Result<(), Fault> {
     let text =
-        "nms_review: most changes are before 04:00 or after 20:00: are time.form and time.zone_offset right?";
+        "nms_review: most changes are before 04:00 or after 20:00: are time.form and the zone right?";
     show_line(call, &[Item::Text(text)])
 }
 
@@ -160,7 +176,7 @@ fn show_line<T: Host>(call: &Call<'_, T>, items: &[Item<'_>]) -> Result<(), Faul
     }
 }
 
-/// Shows what was kept back for standard error, and forgets it.
+/// Shows what was kept for standard error, and clears it.
 pub(crate) fn show_kept<T: Host>(call: &Call<'_, T>, text: &mut Vec<u8>) {
     show_text(call, text.as_slice());
     text.clear();
@@ -173,7 +189,7 @@ fn show_text<T: Host>(call: &Call<'_, T>, text: &[u8]) {
     }
 }
 
-/// The code of what is wrong with a mapping.
+/// The code for what is wrong with a mapping.
 fn code_of(fault: &MapFault<'_>) -> Code {
     match fault {
         MapFault::NotToml { .. } => Code::M1,

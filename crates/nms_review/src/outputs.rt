@@ -1,23 +1,23 @@
-//! The files that an import writes. Each is written under a temporary name next to its own, and all get their names at the end:
-//! until then, and after a failure, the files of an earlier import stay as they were.
+//! The files that an import writes. Each is written under a temporary name next to its own, and all get their names at the end.
+//! Until then, and after a failure, the files of an earlier import stay as they were.
 use crate::answers::Answers;
 use crate::call::{Call, Host};
 use crate::fault::{About, Fault, Output};
-use crate::files::{create_file, is_file, refuse_input};
+use crate::files::{create_file, is_file, is_same, refuse_input};
 use std::alloc::Global;
 use std::fs;
 use std::io::Write;
 
-/// What a temporary name ends with.
+/// The end of a temporary name.
 const PART: &str = ".part";
-/// The files of an import of quotes. No reader does without the last one.
+/// The files of an import of quotes. Every reader needs the last one.
 pub(crate) const QUOTES: [&'static str; 3] = [".symbols", ".times", ".changes"];
 /// The file of an import of trades.
 pub(crate) const TRADES: [&'static str; 1] = [".executions"];
-/// The files of a shard. No reader does without the last one.
+/// The files of a shard. Every reader needs the last one.
 pub(crate) const SHARD: [&'static str; 4] = [".toml", ".symbols", ".times", ".changes"];
 
-/// Refuses an output that the call reads, by its own name or by the temporary one, and one that is no plain file.
+/// Refuses an output that the call reads, by its own name or by the temporary one, and an output that is no plain file.
 pub(crate) fn check_outputs<T: Host>(
     call: &Call<'_, T>,
     name: &str,
@@ -30,11 +30,24 @@ pub(crate) fn check_outputs<T: Host>(
         let part = path_of(call.alloc(), name, output, PART)?;
         refuse_input(call, own.as_str())?;
         refuse_input(call, part.as_str())?;
+        refuse_twice(call, own.as_str())?;
+        refuse_twice(call, part.as_str())?;
         if fs::metadata(call.rt, own.as_str()).is_ok() && !is_file(call.rt, own.as_str()) {
             return Err(Fault::unwritten(About::Out(output)));
         }
     }
     Ok(())
+}
+
+/// Refuses an output that is the file of refused rows too.
+fn refuse_twice<T: Host>(call: &Call<'_, T>, path: &str) -> Result<(), Fault> {
+    match call.words.option("refused") {
+        Some(refused) if is_same(call.rt, path, refused) => Err(Fault::usage(
+            About::Value("refused"),
+            "another file than those of --out",
+        )),
+        Some(_) | None => Ok(()),
+    }
 }
 
 /// A new file under its temporary name. One whose own name the call reads is refused: it would be overwritten in the end.
@@ -45,22 +58,24 @@ pub(crate) fn create<T: Host>(
 ) -> Result<Answers<T::File>, Fault> {
     let own = path_of(call.alloc(), name, output, "")?;
     refuse_input(call, own.as_str())?;
+    refuse_twice(call, own.as_str())?;
     let part = path_of(call.alloc(), name, output, PART)?;
+    refuse_twice(call, part.as_str())?;
     match create_file(call, part.as_str(), About::Out(output)) {
         Ok(file) => Answers::new(call.alloc(), file, false).map_err(|_| Fault::no_memory()),
         Err(fault) => Err(fault),
     }
 }
 
-/// Writes out what is kept back of an output.
+/// Writes out what an output still keeps.
 pub(crate) fn flush<W: Write>(writer: &mut W, output: Output) -> Result<(), Fault> {
     writer
         .flush()
         .map_err(|_| Fault::unwritten(About::Out(output)))
 }
 
-/// Gives the files of one import their names. The last of `ends` is the one that no reader does without: its earlier file goes
-/// first and the new one comes last, so that nobody reads it with files of another import.
+/// Gives the files of one import their names. Every reader needs the last of `ends`. So its earlier file is removed first and
+/// the new one comes last, and no one reads it with files of another import.
 pub(crate) fn publish<T: Host>(
     call: &Call<'_, T>,
     name: &str,
@@ -78,7 +93,7 @@ pub(crate) fn publish<T: Host>(
 }
 
 /// Gives the files of shards their names, and removes the shards of an earlier import, also those past the last new one. The
-/// changes of the first shard go first and come last: without them the shards are not whole.
+/// changes of the first shard are removed first and come last, because the shards can't be read without them.
 pub(crate) fn publish_shards<T: Host>(
     call: &Call<'_, T>,
     name: &str,
@@ -115,7 +130,7 @@ fn remove_shards<T: Host>(call: &Call<'_, T>, name: &str, shards: u64) -> Result
     Ok(())
 }
 
-/// Removes what is left under temporary names.
+/// Removes the files that are left under temporary names.
 pub(crate) fn remove_parts<T: Host>(
     call: &Call<'_, T>,
     name: &str,

@@ -10,7 +10,7 @@ use crate::words::Words;
 use nms_codes::Code;
 use nms_drawing::{Asked, PageFault, write_page};
 use nms_show::Ending;
-use nms_trades::Timing;
+use nms_trades::{Layout, Timing};
 use std::alloc::AllocError;
 use std::io::Write;
 
@@ -19,6 +19,7 @@ pub(crate) fn serve_page<T: Host, W: Write>(
     call: &Call<'_, T>,
     trades: &Trades<'_>,
     timing: Option<&Timing<'_>>,
+    layout: Layout,
     page: Path<'_>,
     answers: &mut W,
 ) -> Result<Ending, Fault> {
@@ -39,7 +40,7 @@ pub(crate) fn serve_page<T: Host, W: Write>(
     };
     let asked = Asked {
         form: call.form(),
-        layout: trades.layout,
+        layout,
         pairs: &pairs,
         bests: trades.bests,
     };
@@ -61,7 +62,8 @@ pub(crate) fn serve_page<T: Host, W: Write>(
     changes.ended(executions.ended(served))
 }
 
-/// What a page was made of, by pairs: each file that was given after what it is, the setup, and how versions are found by times.
+/// The pairs that say what a page was made from. They have each given file after what it is, the setup, and how versions are
+/// found by times.
 pub(crate) fn made_of<'a, T: Host>(
     call: &Call<'a, T>,
     files: &[(&'static str, Option<Path<'a>>)],
@@ -94,7 +96,7 @@ fn add_options<'a>(pairs: &mut Vec<&'a [u8]>, words: &'a Words<'a>) -> Result<()
     Ok(())
 }
 
-/// Adds a pair: a key, its text.
+/// Adds a pair of a key and its text.
 fn add_pair<'a>(
     pairs: &mut Vec<&'a [u8]>,
     key: &'static str,
@@ -105,7 +107,7 @@ fn add_pair<'a>(
     Ok(())
 }
 
-/// A fault of executions on a page: it is about the file of the executions, what names the version, or another file.
+/// A fault of executions on a page. It is about the file of the executions, what names the version, or another file.
 pub(crate) fn page_fault(fault: PageFault, executions: About, version: About) -> Fault {
     match fault {
         PageFault::Drawing(fault) => drawing_fault(fault, version, About::Word(0)),

@@ -4,12 +4,12 @@ use std::fmt;
 use std::fmt::Write;
 use std::time::{Clock, Duration};
 
-/// No progress is shown for work of fewer milliseconds.
+/// How many milliseconds the work takes before progress is shown.
 const FIRST: u64 = 1000;
-/// For how many milliseconds a line is shown before the next.
+/// How many milliseconds a line is shown before the next one.
 const EACH: u64 = 250;
 
-/// How far a file has been read: the bytes read, of how many, and ends of lines.
+/// How far a file has been read: the bytes read and their total, and the ends of lines.
 #[derive(Clone, Copy)]
 pub(crate) struct Progress {
     total: u64,
@@ -17,12 +17,12 @@ pub(crate) struct Progress {
     lines: u64,
     began: Duration,
     shown: Duration,
-    /// When it is shown next, if the clock goes that far.
+    /// When progress is shown next, if the clock goes that far.
     next: Option<Duration>,
 }
 
 impl Progress {
-    /// For a file of n bytes, none of which has been read.
+    /// The progress of a file of n bytes, none of which has been read.
     pub(crate) fn new(total: u64, began: Duration) -> Self {
         Progress {
             total,
@@ -34,7 +34,7 @@ impl Progress {
         }
     }
 
-    /// Counts the bytes read, and returns whether to show that now. It is not shown once a count passes 2^64 - 1.
+    /// Counts the bytes read, and returns whether to show the progress now. It is not shown once a count passes 2^64 - 1.
     pub(crate) fn count<T: Clock>(&mut self, clock: &T, bytes: &[u8]) -> bool {
         let ends = bytes.iter().filter(|byte| **byte == b'\n').count();
         let done = self.done.checked_add(bytes.len() as u64);
@@ -67,7 +67,7 @@ impl Progress {
         }
     }
 
-    /// Seconds until the whole file is read, rounded up, if the reading goes on as it did.
+    /// Seconds until all of the file is read, rounded up, if the reading goes on at the same speed.
     fn left(&self, passed: u64) -> u64 {
         match self.total.checked_sub(self.done) {
             Some(rest) => part_of(rest, passed, self.done).div_ceil(1000),
@@ -77,7 +77,7 @@ impl Progress {
 }
 
 impl fmt::Display for Progress {
-    /// The share of the file, lines a second, and the time left. For a pipe no share is known.
+    /// Writes the share of the file that was read, lines a second, and the time left. The share of a pipe is not known.
     fn fmt<W: fmt::Write>(&self, f: &mut fmt::Formatter<W>) -> fmt::Result {
         let passed = self.passed();
         let speed = part_of(self.lines, 1000, passed);

@@ -1,6 +1,7 @@
-//! What a call asks for: what the words of each subcommand say. They are read here and nowhere else.
+//! What a call asks for: what the arguments of each subcommand mean. They are read only here.
 //!
-//! If no file is read before a word is tested, a wrong one is a fault at once. Else its field has the fault until its turn comes.
+//! If no file is read before an argument is tested, a wrong one is a fault at once. Else its field has the fault until its turn
+//! comes.
 use crate::fault::{About, Fault};
 use crate::words::{Kind, RecordKind, Sub, Words};
 use nms_times::TimeOfDay;
@@ -8,24 +9,24 @@ use nms_trades::Layout;
 use std::alloc::Global;
 
 /// The longest window, in nanoseconds: a minute. An execution may look at each change of its symbol's best prices in its
-/// window, so longer ones would take hours on a day. This product's own rule.
+/// window, so longer windows would take hours on a day. This product's own rule.
 const LONGEST_WINDOW: u64 = 60_000_000_000;
 
-/// A file that a word names.
+/// A file that an argument names.
 #[derive(Clone, Copy)]
 pub(crate) struct Path<'a> {
     pub(crate) name: &'a str,
     pub(crate) about: About,
 }
 
-/// A symbol that a word names.
+/// A symbol that an argument names.
 #[derive(Clone, Copy)]
 pub(crate) struct Symbol<'a> {
     pub(crate) name: &'a str,
     pub(crate) about: About,
 }
 
-/// A symbol among whose changes versions are found by time.
+/// A symbol, if versions are found by time among its changes only.
 #[derive(Clone, Copy)]
 pub(crate) struct Within<'a> {
     /// The file of symbols that an import wrote.
@@ -33,12 +34,12 @@ pub(crate) struct Within<'a> {
     pub(crate) symbol: Symbol<'a>,
 }
 
-/// A version that a word names.
+/// A version that an argument names.
 #[derive(Clone, Copy)]
 pub(crate) enum Version {
-    /// By its number.
+    /// The version with this number.
     Number(u64),
-    /// The last one at or before a time, which the word has after `@`.
+    /// The last version at or before a time, which the argument has after `@`.
     At { time: TimeOfDay, about: About },
 }
 
@@ -46,7 +47,7 @@ pub(crate) enum Version {
 #[derive(Drop)]
 pub(crate) enum Request<'a> {
     Explain(Explain<'a>),
-    /// Of a script.
+    /// Asks for the tape of a script.
     Tape(Path<'a>),
     At(At<'a>),
     Opening(Opening<'a>),
@@ -59,11 +60,11 @@ pub(crate) enum Request<'a> {
     Compare(Compare<'a>),
 }
 
-/// `explain`.
+/// What `explain` is asked for.
 #[derive(Drop)]
 pub(crate) struct Explain<'a> {
     pub(crate) kind: Kind,
-    /// The file, or the code.
+    /// The file or the code that is explained.
     pub(crate) subject: Path<'a>,
     /// The letter of a feed.
     pub(crate) feed: Option<&'a str>,
@@ -71,39 +72,39 @@ pub(crate) struct Explain<'a> {
     pub(crate) symbols: Option<Path<'a>>,
 }
 
-/// `at`.
+/// What `at` is asked for.
 #[derive(Drop)]
 pub(crate) struct At<'a> {
     pub(crate) version: Result<Version, Fault>,
     pub(crate) changes: Path<'a>,
-    /// Without one all symbols are shown.
+    /// The symbol; without one all symbols are shown.
     pub(crate) symbol: Option<Symbol<'a>>,
     pub(crate) times: Option<Path<'a>>,
     pub(crate) within: Option<Within<'a>>,
 }
 
-/// `opening`.
+/// What `opening` is asked for.
 #[derive(Drop)]
 pub(crate) struct Opening<'a> {
     pub(crate) version: Result<u64, Fault>,
     pub(crate) changes: Path<'a>,
 }
 
-/// `stream`.
+/// What `stream` is asked for.
 #[derive(Drop)]
 pub(crate) struct Stream<'a> {
     pub(crate) changes: Path<'a>,
-    /// Without one all symbols are streamed.
+    /// The symbol; without one all symbols are streamed.
     pub(crate) symbol: Option<Symbol<'a>>,
-    /// Whether each participant's quotations are streamed, in place of the best ones.
+    /// Whether each participant's quotations are streamed instead of the best ones.
     pub(crate) boards: bool,
     pub(crate) times: Option<Path<'a>>,
 }
 
-/// `check` and `why`.
+/// What `check` or `why` is asked for.
 #[derive(Drop)]
 pub(crate) struct Plans<'a> {
-    /// Whether it is `why`.
+    /// Whether the subcommand is `why`.
     pub(crate) is_why: bool,
     pub(crate) changes: Path<'a>,
     /// The file of answers, or of the plan.
@@ -111,7 +112,7 @@ pub(crate) struct Plans<'a> {
     pub(crate) times: Option<Path<'a>>,
 }
 
-/// `draw`.
+/// What `draw` is asked for.
 #[derive(Drop)]
 pub(crate) struct Draw<'a> {
     pub(crate) changes: Path<'a>,
@@ -123,28 +124,32 @@ pub(crate) struct Draw<'a> {
     pub(crate) to: Result<Option<Version>, Fault>,
     /// Whether the page counts versions, although there are times.
     pub(crate) own: bool,
-    /// Whether the page has best quotations only.
+    /// Whether the page has only best quotations.
     pub(crate) bests: bool,
     pub(crate) times: Option<Path<'a>>,
     pub(crate) within: Option<Within<'a>>,
 }
 
-/// `import`.
+/// What `import` is asked for.
 #[derive(Drop)]
 pub(crate) struct Import<'a> {
     pub(crate) map: Path<'a>,
     /// The vendor's files, in order.
     pub(crate) files: Vec<Path<'a>>,
-    /// What the names of the written files begin with.
+    /// The beginning of the written files' names.
     pub(crate) out: &'a str,
     /// Whether each time has the number of its row.
     pub(crate) rows: bool,
     pub(crate) shards: bool,
-    /// Whether a setup was named.
-    pub(crate) has_setup: bool,
+    /// Whether symbols that the setup lacks are added.
+    pub(crate) adds: bool,
+    /// Where all refused rows are written.
+    pub(crate) refused: Option<Path<'a>>,
+    /// The setup that was named.
+    pub(crate) setup: Option<&'a str>,
 }
 
-/// `when`.
+/// What `when` is asked for.
 #[derive(Drop)]
 pub(crate) struct When<'a> {
     pub(crate) times: Path<'a>,
@@ -169,7 +174,7 @@ pub(crate) struct Versions<'a> {
     pub(crate) within: Option<Within<'a>>,
 }
 
-/// `trades`.
+/// What `trades` is asked for.
 #[derive(Drop)]
 pub(crate) struct Trades<'a> {
     pub(crate) changes: Path<'a>,
@@ -178,16 +183,16 @@ pub(crate) struct Trades<'a> {
     pub(crate) symbols: Option<Path<'a>>,
     /// Whether the changes of an execution's own time are left out.
     pub(crate) before: bool,
-    /// In nanoseconds.
+    /// The window, in nanoseconds.
     pub(crate) window: Result<Option<u64>, Fault>,
-    pub(crate) layout: Layout,
-    /// The page that is written too.
+    pub(crate) layout: Result<Layout, Fault>,
+    /// The page that is written in addition.
     pub(crate) html: Option<Path<'a>>,
-    /// Whether it has best quotations only.
+    /// Whether the page has only best quotations.
     pub(crate) bests: bool,
 }
 
-/// `compare`.
+/// What `compare` is asked for.
 #[derive(Drop)]
 pub(crate) struct Compare<'a> {
     pub(crate) changes: Path<'a>,
@@ -195,9 +200,11 @@ pub(crate) struct Compare<'a> {
     pub(crate) national: Path<'a>,
     pub(crate) map: Path<'a>,
     pub(crate) times: Path<'a>,
+    /// Where all rows that differ or are refused are written.
+    pub(crate) refused: Option<Path<'a>>,
 }
 
-/// What the words ask for, or the first fault of those that come before any file.
+/// What the arguments ask for. Or the first fault of those that are reported before any file is read.
 pub(crate) fn request_of<'a>(alloc: Global, words: &Words<'a>) -> Result<Request<'a>, Fault> {
     match words.command {
         Sub::Explain => explained(words),
@@ -229,14 +236,15 @@ pub(crate) fn request_of<'a>(alloc: Global, words: &Words<'a>) -> Result<Request
             national: own_file(words, 1),
             map: needed_file(words, "map"),
             times: needed_file(words, "times"),
+            refused: given_file(words, "refused"),
         })),
     }
 }
 
-/// What `explain` is asked for. An option without effect on the kind is refused.
+/// What `explain` is asked for. An option that has no effect on the kind is refused.
 fn explained<'a>(words: &Words<'a>) -> Result<Request<'a>, Fault> {
     let Some(kind) = Kind::named(own_word(words, 0)) else {
-        // The parser takes no other word there.
+        // The parser lets no other word pass there.
         return Err(Fault::usage(About::Word(0), "it is no kind of file"));
     };
     let is_feed = matches!(kind, Kind::Records(RecordKind::Feed));
@@ -289,7 +297,7 @@ fn version_shown(words: &Words<'_>) -> Result<Version, Fault> {
     }
 }
 
-/// What `stream` is asked for. Boards have no form as text.
+/// What `stream` is asked for. Boards can't be written as text.
 fn streamed<'a>(words: &Words<'a>) -> Result<Request<'a>, Fault> {
     let boards = words.has("boards");
     if boards && !words.has("json") {
@@ -331,13 +339,19 @@ fn imported<'a>(alloc: Global, words: &Words<'a>) -> Result<Request<'a>, Fault> 
             return Err(Fault::no_memory());
         }
     }
+    if words.has("shards") && words.has("add-symbols") {
+        let expected = "--shards adds symbols itself, and goes with no --add-symbols";
+        return Err(Fault::usage(About::Nothing, expected));
+    }
     Ok(Request::Import(Import {
         map: own_file(words, 0),
         files,
         out: words.option("out").unwrap_or(""),
         rows: words.has("rows"),
         shards: words.has("shards"),
-        has_setup: words.option("setup").is_some(),
+        adds: words.has("add-symbols"),
+        refused: given_file(words, "refused"),
+        setup: words.option("setup"),
     }))
 }
 
@@ -362,7 +376,7 @@ fn sought<'a>(alloc: Global, words: &Words<'a>) -> Result<Request<'a>, Fault> {
     }
 }
 
-/// The version whose time is asked for. What finds versions does not go with it.
+/// The version whose time is asked for. The options that find versions do not go with it.
 fn version_alone(words: &Words<'_>, version: &str) -> Result<u64, Fault> {
     if words.own.len() > 1
         || words.has("before")
@@ -407,11 +421,6 @@ fn versions_sought<'a>(alloc: Global, words: &Words<'a>) -> Result<Versions<'a>,
 
 /// What `trades` is asked for.
 fn judged<'a>(words: &Words<'a>) -> Request<'a> {
-    let layout = if words.has("table") {
-        Layout::Table
-    } else {
-        Layout::Lines
-    };
     Request::Trades(Trades {
         changes: own_file(words, 0),
         executions: own_file(words, 1),
@@ -419,10 +428,28 @@ fn judged<'a>(words: &Words<'a>) -> Request<'a> {
         symbols: given_file(words, "symbols"),
         before: words.has("before"),
         window: window_given(words),
-        layout,
+        layout: layout_given(words),
         html: given_file(words, "html"),
         bests: words.has("bests"),
     })
+}
+
+/// What `trades` is to print. At most one of three is given. Columns are CSV and not objects.
+fn layout_given(words: &Words<'_>) -> Result<Layout, Fault> {
+    let columns = words.has("columns");
+    if columns && words.has("json") {
+        return Err(Fault::usage(About::Nothing, "--columns prints CSV, and takes no --json"));
+    }
+    match (columns, words.has("table"), words.has("quality")) {
+        (false, false, false) => Ok(Layout::Lines),
+        (true, false, false) => Ok(Layout::Columns),
+        (false, true, false) => Ok(Layout::Table),
+        (false, false, true) => Ok(Layout::Quality),
+        (_, _, _) => Err(Fault::usage(
+            About::Nothing,
+            "--columns, --table and --quality exclude each other",
+        )),
+    }
 }
 
 /// The nanoseconds that `--window` gives. It needs times, as two other options do.
@@ -447,12 +474,12 @@ fn window_given(words: &Words<'_>) -> Result<Option<u64>, Fault> {
     }
 }
 
-/// The subcommand's own word at a place. The parser makes sure that the needed ones are there.
+/// The subcommand's own argument at a place. The parser makes sure that the needed ones are there.
 fn own_word<'a>(words: &Words<'a>, place: usize) -> &'a str {
     words.word(place).unwrap_or("")
 }
 
-/// The file that the subcommand's own word at a place names.
+/// The file that the subcommand's own argument at a place names.
 fn own_file<'a>(words: &Words<'a>, place: usize) -> Path<'a> {
     Path {
         name: own_word(words, place),
@@ -476,7 +503,7 @@ fn given_file<'a>(words: &Words<'a>, option: &'static str) -> Option<Path<'a>> {
     })
 }
 
-/// The symbol that the subcommand's own word at a place names, if there is one.
+/// The symbol that the subcommand's own argument at a place names, if there is one.
 fn own_symbol<'a>(words: &Words<'a>, place: usize) -> Option<Symbol<'a>> {
     Some(Symbol {
         name: words.word(place)?,
@@ -484,7 +511,7 @@ fn own_symbol<'a>(words: &Words<'a>, place: usize) -> Option<Symbol<'a>> {
     })
 }
 
-/// Where versions are found by time: in the changes of a symbol, if a file of symbols is named.
+/// How versions are found by time: among the changes of a symbol, if a file of symbols is named.
 fn found_within<'a>(words: &Words<'a>, symbol: Option<Symbol<'a>>) -> Option<Within<'a>> {
     Some(Within {
         symbols: given_file(words, "symbols")?,
@@ -503,7 +530,7 @@ fn version_given(words: &Words<'_>, option: &'static str) -> Result<Option<Versi
     }
 }
 
-/// The version that a word names.
+/// The version that an argument names.
 fn version_in(word: &str, about: About) -> Result<Version, Fault> {
     let Some(time) = word.strip_prefix('@') else {
         return match number_in(word, about) {
@@ -522,7 +549,7 @@ fn number_in(word: &str, about: About) -> Result<u64, Fault> {
     digits_in(word).ok_or(Fault::usage(about, "a version is a number, 0 or more"))
 }
 
-/// The fault of a word that is no time.
+/// The fault of an argument that is no time.
 fn no_time(about: About) -> Fault {
     Fault::usage(
         about,
@@ -530,7 +557,7 @@ fn no_time(about: About) -> Fault {
     )
 }
 
-/// A number, in digits only: `parse` would accept a plus before them too.
+/// The number of a text that has only digits. `parse` would accept a plus before them too.
 fn digits_in(word: &str) -> Option<u64> {
     if word.bytes().all(|byte| byte.is_ascii_digit()) {
         word.parse::<u64>().ok()

@@ -1,10 +1,10 @@
-//! The kinds of the process's two outputs.
+//! What kinds of outputs the process has.
 
-/// Which of the process's outputs are terminals.
+/// Whether the process's outputs show what terminals show.
 #[derive(Clone, Copy)]
 pub(crate) struct Screen {
-    /// Standard output, where answers go: on a terminal they have colours.
+    /// Whether answers have colours. They have if standard output is a terminal that shows colours.
     pub(crate) answers: bool,
-    /// Standard error: on a terminal it shows how far the work is.
+    /// Whether standard error shows the progress of the work.
     pub(crate) errors: bool,
 }

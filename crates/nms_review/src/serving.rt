@@ -19,7 +19,7 @@ use nms_show::Ending;
 use nms_verdicts::{VerdictFault, check_answers, explain_why};
 use std::io::Write;
 
-/// Serves what the words ask for. What goes without a setup is served under the built-in one.
+/// Serves what the arguments ask for. What needs no setup is served under the built-in one.
 pub(crate) fn serve<T: Host, W: Write>(
     rt: &T,
     screen: Screen,

@@ -1,4 +1,4 @@
-//! A file being read: how far it is, and why it could not be read.
+//! A file that is being read: how far the reading is, and why the file could not be read.
 use crate::answers::ERASE;
 use crate::fault::Fault;
 use crate::progress::Progress;
@@ -20,7 +20,7 @@ pub(crate) struct Source<'a, T, R> {
 }
 
 impl<'a, T: Clock + Eprint, R: Read + OpenFile> Source<'a, T, R> {
-    /// Over an open file.
+    /// The source over an open file.
     pub(crate) fn new(rt: &'a T, screen: Screen, file: R) -> Self {
         let progress = if screen.errors {
             progress_of(rt, &file)
@@ -38,12 +38,12 @@ impl<'a, T: Clock + Eprint, R: Read + OpenFile> Source<'a, T, R> {
 }
 
 impl<T: Clock + Eprint, R> Source<'_, T, R> {
-    /// Why the file could not be read to its end, if so.
+    /// Why the file could not be read to its end, if it could not.
     pub(crate) fn failed(&self) -> Option<io::Error> {
         self.failed
     }
 
-    /// How a request ends that has read the file. The line of progress is removed.
+    /// The end of a request that has read the file. The line of progress is removed.
     pub(crate) fn ended(&mut self, served: Result<Ending, Fault>) -> Result<Ending, Fault> {
         self.clear();
         match served {

@@ -13,7 +13,7 @@ pub(crate) fn tell_fault<E: Write>(fault: &Fault, words: &Words<'_>, errors: &mu
     fault.code.status()
 }
 
-/// Writes the line of a fault: the file or the word, the code, and a sentence.
+/// Writes the line of a fault: the file or the argument, the code, and a sentence.
 fn write_fault<E: Write>(
     fault: &Fault,
     words: &Words<'_>,
@@ -42,7 +42,7 @@ fn write_fault<E: Write>(
     write_line(errors, Form::Text { colours: false }, &items)
 }
 
-/// Writes which call shows the place, for a file that was refused.
+/// Writes which call shows the place of the fault, if a file was refused.
 fn write_tip<E: Write>(fault: &Fault, words: &Words<'_>, errors: &mut E) -> Result<(), ShowFault> {
     let Some(kind) = kind_of(fault, words.command) else {
         return Ok(());
@@ -67,7 +67,7 @@ fn write_tip<E: Write>(fault: &Fault, words: &Words<'_>, errors: &mut E) -> Resu
     write_line(errors, Form::Text { colours: false }, &items)
 }
 
-/// The kind of the file that was refused, as `explain` names it: only records and setups have places that it shows.
+/// The kind of the file that was refused, as `explain` names it. Only records and setups have places that it shows.
 fn kind_of(fault: &Fault, command: Sub) -> Option<&'static str> {
     if command == Sub::Explain {
         return None;
@@ -96,7 +96,7 @@ fn kind_of_records(about: About, command: Sub) -> Option<&'static str> {
     }
 }
 
-/// The word that a fault is about; nothing if it is about none.
+/// The argument that a fault is about; empty if it is about none.
 fn word_of<'a>(about: About, words: &Words<'a>) -> &'a str {
     let word = match about {
         About::Nothing => None,
@@ -107,7 +107,7 @@ fn word_of<'a>(about: About, words: &Words<'a>) -> &'a str {
     word.unwrap_or("")
 }
 
-/// What stands after the word that a fault is about: a point, the number of a shard, and the end of a file's name.
+/// The text after the argument that a fault is about: a point, the number of a shard, and the end of a file's name.
 fn end_of(about: About) -> (&'static str, Item<'static>, &'static str) {
     match about {
         About::Out(output) if output.shard > 0 => (".", Item::Number(output.shard), output.end),

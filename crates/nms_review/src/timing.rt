@@ -26,7 +26,7 @@ pub(crate) fn serve_when<T: Host, W: Write>(
     }
 }
 
-/// The number of a version. One at a time is found among these times, and within a symbol if there is one.
+/// The number of a version. A version at a time is found among these times, and within a symbol if there is one.
 pub(crate) fn number_of<T: Host>(
     call: &Call<'_, T>,
     version: &Version,
@@ -45,7 +45,7 @@ pub(crate) fn number_of<T: Host>(
     }
 }
 
-/// The times in which versions are found: all of them, or those of a symbol.
+/// The times among which versions are found: all of them, or those of a symbol.
 fn rising_of<'a, T: Host>(
     call: &Call<'_, T>,
     within: Option<Within<'_>>,
@@ -62,7 +62,7 @@ fn rising_of<'a, T: Host>(
     found.map_err(|fault| Fault::of_times(fault, about))
 }
 
-/// The versions of a symbol among so many, by the file of symbols.
+/// The versions of a symbol among the given number, by the file of symbols.
 pub(crate) fn span_of<T: Host>(
     call: &Call<'_, T>,
     within: Within<'_>,
@@ -112,7 +112,7 @@ fn write_versions<T: Host, W: Write>(
     Ok(Ending::Done)
 }
 
-/// Writes the time of a version, and the row of its source, if the lines have rows.
+/// Writes the time of a version. It also writes the row of its source, if the lines have rows.
 fn write_time<T: Host, W: Write>(
     call: &Call<'_, T>,
     text: &[u8],

@@ -5,23 +5,24 @@ use crate::paging::serve_page;
 use crate::request::Trades;
 use nms_show::Ending;
 use nms_times::Times;
-use nms_trades::{Timing, TradesFault, judge_file};
+use nms_trades::{Layout, Timing, TradesFault, judge_file};
 use std::io::Write;
 
-/// Judges a file of executions. The words are tested first, then times are read; both files are opened before either is read.
+/// Judges a file of executions. The arguments are tested first, then times are read. Both files are opened before either is read.
 pub(crate) fn serve_trades<T: Host, W: Write>(
     call: &Call<'_, T>,
     trades: &Trades<'_>,
     answers: &mut W,
 ) -> Result<Ending, Fault> {
     let window = trades.window?;
+    let layout = trades.layout?;
     let times = call.read_times(trades.times)?;
     let symbols = call.read_given(trades.symbols)?;
     let symbols = symbols.as_ref().map(Vec::as_slice);
     let timing = timing_of(times.as_ref(), symbols, trades.before, window);
     match trades.html {
-        Some(page) => serve_page(call, trades, timing.as_ref(), page, answers),
-        None => serve_answers(call, trades, timing.as_ref(), answers),
+        Some(page) => serve_page(call, trades, timing.as_ref(), layout, page, answers),
+        None => serve_answers(call, trades, timing.as_ref(), layout, answers),
     }
 }
 
@@ -30,6 +31,7 @@ fn serve_answers<T: Host, W: Write>(
     call: &Call<'_, T>,
     trades: &Trades<'_>,
     timing: Option<&Timing<'_>>,
+    layout: Layout,
     answers: &mut W,
 ) -> Result<Ending, Fault> {
     let mut changes = call.open(trades.changes)?;
@@ -41,14 +43,14 @@ fn serve_answers<T: Host, W: Write>(
         &mut executions,
         timing,
         call.form(),
-        trades.layout,
+        layout,
         answers,
     )
     .map_err(|fault| trades_fault(fault, trades.executions.about));
     changes.ended(executions.ended(served))
 }
 
-/// A fault of executions: in their file, in that of the changes, or in the times.
+/// A fault of executions. It is about their file, that of the changes, or the times.
 pub(crate) fn trades_fault(fault: TradesFault, executions: About) -> Fault {
     match fault {
         TradesFault::Executions(_) | TradesFault::TooLong => Fault::of(fault.code(), executions),

@@ -1,4 +1,4 @@
-//! A vendor's file, whose rows are read one after another, whatever becomes of them.
+//! A vendor's file, whose rows are read one after another, whether they are accepted or not.
 use crate::call::{Call, Host};
 use crate::fault::{About, Fault};
 use crate::request::Path;
@@ -15,9 +15,9 @@ use std::{io, str};
 /// A vendor's file that is being read.
 #[derive(Drop)]
 pub(crate) struct Rows<'a, T, R> {
-    /// Its first row, if that names the columns; else it is empty.
+    /// Its first row, if that names the columns; else an empty one.
     pub(crate) names: ByteRecord,
-    /// The reader of the rows after that.
+    /// The reader of the rows after the first one.
     pub(crate) reader: Reader<RowSource<Source<'a, T, R>>>,
 }
 
@@ -37,7 +37,7 @@ pub(crate) fn open_vendor<'a, T: Host>(
 }
 
 impl<T: Host, R: Read + Drop> Rows<'_, T, R> {
-    /// Ends the reading: the line of progress is removed. Returns the system's reason, if the file could not be read to its end.
+    /// Ends the reading, and removes the line of progress. Returns the system's reason, if the file could not be read to its end.
     pub(crate) fn close(self) -> Option<io::Error> {
         let Rows { names: _, reader } = self;
         let mut source = reader.into_inner().into_source();
@@ -54,7 +54,7 @@ pub(crate) fn map_document(alloc: Global, bytes: &[u8]) -> Result<Table, MapFaul
     }
 }
 
-/// A fault of an import, in the file of a word.
+/// A fault of an import, in the file that an argument names.
 pub(crate) fn fault_in(fault: ImportFault, about: About) -> Fault {
     let code = match fault {
         ImportFault::ReadFault => Code::E1,

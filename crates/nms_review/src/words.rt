@@ -1,4 +1,4 @@
-//! The words of the command line, or why they are refused.
+//! The arguments of the command line, or why they are refused.
 mod command_line;
 mod command_words;
 mod given;

@@ -1,1 +1,2 @@
+mod AddedFacts
 mod TapeFacts

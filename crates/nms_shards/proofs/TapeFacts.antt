@@ -39,7 +39,7 @@ use Rattle.nms_shards.specs.OfSymbol.{IsCut, IsOfShard, of_symbol, said_of_symbo
 abbrev stood : ℕ → ℕ → Side → Tape → Bool
 stood part symbol side tape = is_some (content_at part symbol side tape)
 
--- two tapes, each of its own roster, are alike at a symbol of theirs
+-- two tapes, each of its roster, are alike at a symbol that both have
 record Alike (whole shard : Sizes) (one other : Tape) (sym own : ℕ) : Type 0 where
   lot : lot_listed whole one sym ≡ lot_listed shard other own
   content : (side : Side) (part : ℕ) → part < whole.parts → content_at part sym side one ≡ content_at part own side other
@@ -332,7 +332,7 @@ said_nothing a (Lot s lot) is =
       lot = ap (λ (b : Bool). if b then Some lot else None) not;
     }
 
--- ---- whole tapes
+-- ---- complete tapes
 
 -- one change, whatever it says about the symbol, and then the rest
 said_by : (whole shard : Sizes) (done short : Tape) (change : Change) (rest : Tape) (a : ℕ)

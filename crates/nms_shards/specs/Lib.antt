@@ -1,3 +1,4 @@
+pub mod Added
 pub mod Shard
 pub mod OfSymbol
 pub mod ShardExamples

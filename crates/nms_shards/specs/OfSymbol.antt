@@ -28,7 +28,7 @@ of_symbol sym tape = filter_map (said_of_symbol sym) tape
 abbrev pub shows : Sizes → Tape → ℕ → Side → List Row
 shows sizes tape sym side = map unnumbered (ranked side (quotations sizes tape sym side))
 
--- a symbol of the whole roster is one of the shard's: as many participants, and the same opening round lot
+-- a symbol of the complete roster is one of the shard's: with the same participants, and the same opening round lot
 pub record IsOfShard (whole shard : Sizes) (sym own : ℕ) : Type 0 where
   pub parts : whole.parts ≡ shard.parts
   pub lot : slice_get whole.lots sym ≡ slice_get shard.lots own
@@ -40,7 +40,7 @@ pub record HoldsSymbol (board : Board) (whole : Sizes) (tape : Tape) (sym : ℕ)
   pub roster : board.sizes ≡ record { parts = whole.parts; lots = lot ∷ [] }
   pub stands : StandsFor board (of_symbol sym tape)
 
--- a cut: the shard begins with opening changes of the symbol, as it stood after the changes before
+-- a cut: the shard begins with opening changes of the symbol, as it was after the changes before
 pub record IsCut (whole shard : Sizes) (before opened : Tape) (sym own : ℕ) : Type 0 where
   pub of : IsOfShard whole shard sym own
   pub board : Board

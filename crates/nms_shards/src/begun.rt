@@ -1,8 +1,8 @@
-//! The symbols that have begun, in any shard.
+//! Which symbols have begun, in any shard.
 use std::alloc::Global;
 use std::collections::HashSet;
 
-/// The symbols that have begun. Nothing else grows with a market.
+/// The symbols that have begun. It is the only thing that grows with a market.
 #[derive(Drop)]
 pub(crate) struct Begun {
     alloc: Global,
@@ -10,7 +10,7 @@ pub(crate) struct Begun {
 }
 
 impl Begun {
-    /// None.
+    /// No symbol has begun.
     pub(crate) fn new(alloc: Global) -> Begun {
         Begun {
             alloc,
@@ -23,12 +23,12 @@ impl Begun {
         self.names.len() as u64
     }
 
-    /// Whether a symbol is one of them.
+    /// Whether a symbol has begun.
     pub(crate) fn contains(&self, name: &str) -> bool {
         self.names.contains(name)
     }
 
-    /// Adds one. Returns whether there was memory for it.
+    /// Adds a symbol. Returns whether there was memory for it.
     pub(crate) fn add(&mut self, name: &str) -> bool {
         match String::from_str(self.alloc, name) {
             Ok(owned) => self.names.insert(owned).is_ok(),

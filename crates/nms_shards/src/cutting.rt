@@ -30,13 +30,14 @@ pub struct Listed {
     pub first: u64,
     /// The version after its last change.
     pub last: u64,
-    /// The time of its first change after the cut that the shard begins at, as the digits HHMMSSnnnnnnnnn, if it goes on with the symbol.
+    /// If the shard goes on with the symbol: the time of its first change after the cut at the shard's beginning. Its digits
+    /// are HHMMSSnnnnnnnnn.
     pub from: Option<u64>,
-    /// The time of the first change of the next shard, likewise, if that goes on with the symbol.
+    /// If the next shard goes on with the symbol: the time of its first change there, in the same form.
     pub until: Option<u64>,
 }
 
-/// What a row of a market says.
+/// What a row of a market makes.
 #[derive(Clone, Copy)]
 pub(crate) enum Said {
     /// One more change of the current symbol, with the cause if the row was refused.
@@ -45,7 +46,7 @@ pub(crate) enum Said {
     Begins(Entry, Option<Cause>),
     /// A change of a symbol that has ended.
     Returned,
-    /// No change.
+    /// The row makes no change.
     Nothing(Cause),
 }
 
@@ -85,7 +86,7 @@ impl Model for Cutting {
 }
 
 impl Cutting {
-    /// Before the first row. The setup gives participants, feeds, fees and round lots, and the limit of changes.
+    /// The state before the first row. The setup gives participants, feeds, fees and round lots, and the limit of changes.
     pub fn new(alloc: Global, lent: &Setup) -> Result<Cutting, ImportFault>
         requires room { LEAST_LIMIT ≤ lent.now.tape_limit }
         ensures filled { IfOk result (λ cutting. cutting ≡ record { changes = 0; opened = 0; limit = lent.now.tape_limit; symbols = 0 }) }
@@ -136,7 +137,7 @@ impl Cutting {
         self.opened
     }
 
-    /// The allocator.
+    /// The allocator of the cutting.
     pub(crate) fn alloc(&self) -> Global {
         self.alloc
     }
@@ -146,7 +147,7 @@ impl Cutting {
         &self.own
     }
 
-    /// What a row says. The shard stays as it is.
+    /// What a row makes. The shard stays as it is.
     pub(crate) fn read(
         &mut self,
         columns: &Columns,
@@ -168,7 +169,7 @@ impl Cutting {
         }
     }
 
-    /// What a row says of another symbol, whose name is in `scratch`.
+    /// What a row of another symbol makes. Its name is in `scratch`.
     fn read_other(
         &mut self,
         columns: &Columns,
@@ -179,7 +180,7 @@ impl Cutting {
         ensures stays { self.new ≡ self.old }
     {
         if !is_symbol_name(&self.scratch) {
-            // It is of no symbol, and a refused one leaves nothing.
+            // A row without a symbol makes no change, and a refused one leaves nothing.
             return match entry_with(columns, meanings, &self.bare, row, None) {
                 Ok(_) => Ok(Said::Returned),
                 Err(cause) => Ok(Said::Nothing(cause)),
@@ -196,7 +197,7 @@ impl Cutting {
         }
     }
 
-    /// What a refused or skipped row of the current symbol says.
+    /// What a refused or skipped row of the current symbol makes.
     fn left_more(
         &self,
         columns: &Columns,
@@ -219,7 +220,7 @@ impl Cutting {
         }
     }
 
-    /// What a refused or skipped row of a symbol that has not begun says.
+    /// What a refused or skipped row of a symbol that has not begun makes.
     fn left_first(
         &self,
         columns: &Columns,
@@ -241,14 +242,15 @@ impl Cutting {
         self.count < self.limit && self.board.takes(change)
     }
 
-    /// Whether the shard takes one more symbol: it has fewer than 1,000, and changes for less than half of its tape.
+    /// Whether the shard takes one more symbol. It does if it has fewer than 1,000, and changes for less than half of its tape.
     pub(crate) fn takes_symbol(&self) -> bool
         ensures { IsTrue result → (self.now.changes < self.now.limit / 2) × (self.now.symbols < MOST_SYMBOLS) }
     {
         self.listed.len() < usize::from(MOST_SYMBOLS) && self.count < self.limit / 2
     }
 
-    /// Sets that the next shard goes on with the current symbol, whose next change has this time; with none it begins with another.
+    /// Notes that the next shard goes on with the current symbol, whose next change has this time. Without a time, the next
+    /// shard begins with another symbol.
     pub(crate) fn split(&mut self, cut: Option<u64>)
         ensures stays { self.new ≡ self.old }
     {
@@ -256,7 +258,7 @@ impl Cutting {
         set_until(&mut self.listed, cut);
     }
 
-    /// Begins with the symbol that was read last, which is another.
+    /// Begins the symbol that was read last, which is another one.
     pub(crate) fn begin_symbol(&mut self, lent: &Roster) -> Result<(), ImportFault>
         requires room { self.old.symbols < MOST_SYMBOLS }
         ensures changes { OnOk result (self.new.changes ≡ self.old.changes) }
@@ -283,7 +285,7 @@ impl Cutting {
         }
     }
 
-    /// Counts a change of the current symbol, made by the row of a number.
+    /// Counts a change of the current symbol that the row with a number made.
     pub(crate) fn count(&mut self, number: u64, entry: &Entry)
         requires room { self.old.changes < self.old.limit }
         ensures changes { self.new.changes ≡ self.old.changes + 1 }

@@ -1,5 +1,5 @@
-//! Laws on a symbol across shards, on the tapes of a whole day and of its shards: `specs/OfSymbol`. No function changes anything:
-//! its contract is the law.
+//! Laws about a symbol across shards, on the tapes of a whole day and of its shards: `specs/OfSymbol`. No function changes
+//! anything: its contract is the law.
 ghost use Rattle.std.specs.Prelude.{◌≡◌, ℕ, ◌++◌};
 ghost use Rattle.nms_quote.specs.Roster.{Sizes};
 ghost use Rattle.nms_quote.specs.Tape.{Tape};
@@ -11,8 +11,8 @@ ghost use Rattle.nms_shards.specs.ShardExamples.{ExamplesHold};
 
 use nms_opening::alike_boards_show_the_same;
 
-/// A shard shows for a symbol the rows that the whole day shows, in the same rank order, with the same protection. The premise
-/// is that its tape says the same about the symbol as the day's tape; its receipts are other numbers.
+/// For a symbol, a shard shows the rows that the whole day shows, in the same rank order, with the same protection. The premise
+/// is that its tape says the same about the symbol as the day's tape. Its receipts are other numbers.
 ///
 /// `boards` says the same about the boards that the program keeps.
 pub fn a_shard_shows_what_the_whole_shows()
@@ -27,8 +27,8 @@ pub fn a_shard_shows_what_the_whole_shows()
     alike_boards_show_the_same();
 }
 
-/// So does a shard that begins with a symbol's opening changes. It goes on with the symbol's changes after the cut, and shows
-/// what the whole day shows after each of them.
+/// The same holds for a shard that begins with a symbol's opening changes. It goes on with the symbol's changes after the cut,
+/// and shows what the whole day shows after each of them.
 pub fn a_cut_shows_what_the_whole_shows()
     ensures { (whole shard : Sizes) (before later opened after : Tape) (sym own : ℕ) → IsCut whole shard before opened sym own
         → of_symbol sym later ≡ of_symbol own after

@@ -1,4 +1,6 @@
 //! Rosters with the participants of a setup, and one symbol or none.
+ghost use Rattle.std.specs.Prelude.{◌≡◌};
+
 use nms_import::ImportFault;
 use nms_quote::{Part, Roster, RosterFault};
 use nms_units::Lot;
@@ -18,7 +20,7 @@ pub(crate) fn bare_roster(alloc: Global, lent: &Roster) -> Result<Roster, Import
     }
 }
 
-/// As `bare_roster`, with one symbol.
+/// As `bare_roster`, but with one symbol.
 pub(crate) fn own_roster(alloc: Global, lent: &Roster, name: &[u8]) -> Result<Roster, ImportFault> {
     let Ok(mut roster) = Roster::new(alloc) else {
         return Err(ImportFault::NoMemory);
@@ -37,7 +39,7 @@ fn add_all(roster: &mut Roster, lent: &Roster, name: &[u8]) -> Result<(), Roster
 }
 
 /// Adds the participants of another roster, in its order.
-fn add_participants(roster: &mut Roster, lent: &Roster) -> Result<(), RosterFault> {
+pub(crate) fn add_participants(roster: &mut Roster, lent: &Roster) -> Result<(), RosterFault> {
     for place in 0..lent.parts() as u8 {
         let part = Part::new(place).unwrap();
         let _ = roster.add_participant(lent.part_name(part).as_bytes(), lent.feed_of(part))?;
@@ -49,6 +51,13 @@ fn add_participants(roster: &mut Roster, lent: &Roster) -> Result<(), RosterFaul
 pub(crate) fn lot_lent(lent: &Roster, name: &[u8]) -> Lot {
     match lent.find_sym(name) {
         Some(sym) => lent.lot_of(sym),
-        None => Lot::new(USUAL_LOT).unwrap(),
+        None => usual_lot(),
     }
+}
+
+/// The round lot of a symbol that the setup does not list.
+pub(crate) fn usual_lot() -> Lot
+    ensures { result ≡ 100 }
+{
+    Lot::new(USUAL_LOT).unwrap()
 }

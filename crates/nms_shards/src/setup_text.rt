@@ -1,4 +1,4 @@
-//! The two small texts beside a shard: its symbols, and its setup.
+//! The two small texts next to a shard: its symbols, and its setup.
 ghost use Rattle.std.specs.Prelude.{◌<◌, ◌≡◌, ◌≤◌, ◌≤ℤ◌, length, negsuc, pos, true};
 ghost use Rattle.std.specs.List.{list_all};
 ghost use Rattle.nms_show.specs.Plain.{is_plain};
@@ -7,14 +7,14 @@ use crate::cutting::{Cutting, Listed};
 use nms_fee_book::Caps;
 use nms_fees::Setup;
 use nms_import::append_clock;
-use nms_quote::{Feed, OrderSide, Part};
+use nms_quote::{Feed, OrderSide, Part, Roster, Sym};
 use nms_show::{Item, SafeText};
-use nms_units::Price;
+use nms_units::{Lot, Price};
 use std::alloc::AllocError;
 
-/// Writes a line for each symbol of the shard: its name, and the versions after its first and its last change. For a symbol that is cut
-/// one more follows for each cut, where ` from ` or ` until ` and the time of the first change after the cut stand after the name. What
-/// is written is safe to show on a terminal.
+/// Writes a line for each symbol of the shard: its name, and the versions after its first and its last change. For each cut of
+/// a symbol, one more line follows. It has ` from ` or ` until ` and the time of the first change after the cut after the name.
+/// What is written is safe to show on a terminal.
 pub fn write_listed(out: &mut SafeText, cutting: &Cutting) -> Result<(), AllocError> {
     let mut time = Vec::new(cutting.alloc());
     for listed in cutting.listed() {
@@ -69,18 +69,29 @@ fn versions_line<'x>(
     ])
 }
 
-/// Writes the setup of the shard: the given one with the shard's symbols in place of its own. A comment at its start says how
+/// Writes the setup of the shard: the given one with the shard's symbols instead of its own. A comment at its start says how
 /// many opening changes the shard begins with. What is written is safe to show on a terminal.
 pub fn write_setup(out: &mut SafeText, setup: &Setup, cutting: &Cutting) -> Result<(), AllocError> {
-    write_top(out, setup, cutting)?;
+    number_line(out, "# opening changes: ", cutting.opened())?;
+    write_top(out, setup)?;
     write_participants(out, setup)?;
     write_symbols(out, cutting)
 }
 
-/// Writes the comment, and the keys before the tables.
-fn write_top(out: &mut SafeText, setup: &Setup, cutting: &Cutting) -> Result<(), AllocError> {
+/// Writes a setup with the symbols of a roster in place of its own. What is written is safe to show on a terminal.
+pub fn write_added(out: &mut SafeText, setup: &Setup, roster: &Roster) -> Result<(), AllocError> {
+    write_top(out, setup)?;
+    write_participants(out, setup)?;
+    for place in 0..roster.syms() as u16 {
+        let sym = Sym::new(place).unwrap();
+        write_symbol(out, roster.sym_name(sym), roster.lot_of(sym))?;
+    }
+    Ok(())
+}
+
+/// Writes the keys before the tables.
+fn write_top(out: &mut SafeText, setup: &Setup) -> Result<(), AllocError> {
     let settings = [
-        ("# opening changes: ", cutting.opened()),
         ("tape_limit = ", setup.tape_limit()),
         ("queue = ", setup.queue() as u64),
         ("desks = ", u64::from(setup.desks())),
@@ -129,8 +140,8 @@ fn write_participant(out: &mut SafeText, setup: &Setup, part: Part) -> Result<()
     amount_line(out, "rate = ", fee_at(setup, part, 1))
 }
 
-/// The fee of a participant for a share at a price in 1/10,000 dollar, in nanodollars. At one dollar that is the key `fee` of
-/// its table, at 1/10,000 dollar the key `rate`.
+/// The fee of a participant for a share at a price in 1/10,000 dollar, in nanodollars. At one dollar it is the key `fee` of its
+/// table, at 1/10,000 dollar the key `rate`.
 fn fee_at(setup: &Setup, part: Part, price: u64) -> i128
     requires there { 0 < price }
     requires low_price { price ≤ 10000 }
@@ -159,16 +170,16 @@ fn letter_of(feed: Feed) -> &'static str {
 /// Writes a table for each symbol of the shard.
 fn write_symbols(out: &mut SafeText, cutting: &Cutting) -> Result<(), AllocError> {
     for listed in cutting.listed() {
-        write_symbol(out, listed)?;
+        write_symbol(out, listed.name.as_str(), listed.lot)?;
     }
     Ok(())
 }
 
 /// Writes the table of a symbol.
-fn write_symbol(out: &mut SafeText, listed: &Listed) -> Result<(), AllocError> {
+fn write_symbol(out: &mut SafeText, name: &str, lot: Lot) -> Result<(), AllocError> {
     head_line(out, "[[symbol]]")?;
-    quoted_line(out, "name", listed.name.as_str())?;
-    number_line(out, "lot = ", u64::from(listed.lot.get()))
+    quoted_line(out, "name", name)?;
+    number_line(out, "lot = ", u64::from(lot.get()))
 }
 
 /// Writes an empty line, and the head of a table.

@@ -1,4 +1,4 @@
-//! The rows of a market, imported one after another until the shard is full.
+//! Importing the rows of a market, one after another, until the shard is full.
 ghost use Rattle.std.specs.Prelude.{◌≡◌, ℕ, ◌<◌, ◌≤◌, ◌+◌, ◌++◌, ◌∷◌, [], List, Option, length, true, false, Ok, OnOk, IfOk, if◌then◌else◌};
 ghost use Rattle.csv.specs.declared.parser.Config.{Config};
 ghost use Rattle.nms_lines.specs.Layout.{Record};
@@ -27,11 +27,11 @@ pub enum Shard {
     Full,
 }
 
-/// Imports the rows that a reader still has until the shard is full. With `waits` the current row comes first. Changes are
-/// written with their times, in order, and every outcome is counted. As in a plain import a refused row withdraws what its
+/// Imports the rows that a reader still has until the shard is full. If `waits` is set, the current row comes first. Changes
+/// are written with their times, in order, and every outcome is counted. As in a plain import, a refused row withdraws what its
 /// participant showed, unless the mapping keeps it.
 ///
-/// An error leaves a prefix of both texts written. The writers are not flushed.
+/// After an error a prefix of both texts was written. The writers are not flushed.
 pub fn import_shard<R: Read, C: Write, T: Write, E: Write>(
     columns: &Columns,
     meanings: &Meanings,
@@ -169,7 +169,7 @@ fn import_row<C: Write, T: Write, E: Write>(
     }
 }
 
-/// Shows a row that makes no change. A market has no roster of symbols, so that only the form of one can be wrong.
+/// Shows a row that makes no change. A market has no roster of symbols, so only the form of one can be wrong.
 fn tell_cause<E: Write>(columns: &Columns, row: &ByteRecord, cause: Cause, told: &mut Told<'_, E>) {
     match cause {
         Cause::UnknownSymbol | Cause::OtherSymbol => told.tell_unformed(columns, row, cause),
@@ -186,7 +186,7 @@ fn tell_cause<E: Write>(columns: &Columns, row: &ByteRecord, cause: Cause, told:
     }
 }
 
-/// Writes the change that a row gives for the current symbol, and counts it. `cause` is why the row was refused, if it was: its
+/// Writes the change that a row gives for the current symbol, and counts it. If the row was refused, `cause` says why, and its
 /// change is a withdrawal.
 fn import_entry<C: Write, T: Write, E: Write>(
     columns: &Columns,
@@ -221,7 +221,7 @@ fn import_entry<C: Write, T: Write, E: Write>(
     Ok(())
 }
 
-/// Counts a row that gives a change: one of its own, or a withdrawal if it was refused.
+/// Counts a row that gives a change, which is a withdrawal if the row was refused.
 fn count_row<E: Write>(
     columns: &Columns,
     entry: &Entry,
@@ -285,7 +285,7 @@ fn write_opening<C: Write, T: Write>(
     give(times, text)
 }
 
-/// Appends the line of a time that often.
+/// Appends the line of a time the given number of times.
 fn append_lines(
     text: &mut Vec<u8>,
     numbers: bool,

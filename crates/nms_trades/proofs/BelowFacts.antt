@@ -33,7 +33,7 @@ pub rest_one : (old start : List (Option Finding)) (k : ℕ) (answer : Option Fi
 rest_one old start k answer rest other later =
     slice_get-set_other old k other answer (omega (arith, later)) ∙ rest other (omega (arith, later))
 
--- once as many as there are executions
+-- once the number is that of the executions
 pub answered_end : (Holds : Execution → Finding → Type 0) (executions : List Execution) (answers : List (Option Finding)) (k : ℕ)
     → length executions ≤ k → AreAnsweredBelow Holds k executions answers → AreAnswered Holds executions answers
 answered_end Holds executions answers k end done place execution at =

@@ -1,6 +1,7 @@
 mod AnswerFacts
 mod BestFacts
 mod BestSteps
+mod ColumnFacts
 mod OkFacts
 mod OrderFacts
 mod OwnFacts

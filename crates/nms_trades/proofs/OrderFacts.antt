@@ -14,7 +14,7 @@ use Rattle.nms_trades.specs.declared.execution.Execution.{Execution}
 use Rattle.nms_trades.specs.declared.execution_file.Refusal.{Refusal}
 use Rattle.nms_trades.specs.declared.finding.Finding.{Finding}
 
--- all refused records of lower numbers stand before
+-- all refused records of lower numbers are before
 count_all : (number : ℕ) (refused : List Refusal) → All (λ refusal. refusal.number < number) refused
     → count_before (Some number) refused ≡ length refused
 count_all number [] below = refl
@@ -50,7 +50,7 @@ order-execution found place (first ∷ before) refused execution below =
     (Judged execution (found_at found (suc place + length before)) ∷ []))
     ∙ ap (λ at. (stands ++ own ∷ in_order found (suc place) before left) ++ Judged execution (found_at found at) ∷ []) same
 
--- one that does not stand before is not counted
+-- one that is not before is not counted
 count_more : (number : Option ℕ) (refused : List Refusal) (one : Refusal) → is_before number one ≡ false
     → count_before number (refused ++ one ∷ []) ≡ count_before number refused
 count_more number [] one after = ap (λ b. cond b (1 + 0) 0) after

@@ -47,7 +47,7 @@ after_cut before t cut (next ∷ cuts) rise =
     (owners before t (stretches (Some next) cuts)) (after_cut before t next cuts parts.1)
     (λ past. past_before before cut next t parts.0 past)
 
--- of a whole day
+-- the same for a whole day
 pub just_one : (before : Bool) (cuts : List ℕ) (t : ℕ) → rise_from 0 cuts ≡ true → length (owners before t (stretches None cuts)) ≡ 1
 unfolding rise_from stretches
 just_one before [] t rise = refl

@@ -28,7 +28,7 @@ marked-more finding place (first ∷ before) one =
     (marked-more finding (suc place) before one
     ∙ ap (λ at. marked_from finding (suc place) before ++ (one.1, flickers_at finding at) ∷ []) (omega arith))
 
--- as many as were traded through
+-- their number is that of those traded through
 pub length-marked : (finding : Finding) (place : ℕ) (passed : List (Side × Row)) → length (marked_from finding place passed) ≡ length passed
 unfolding marked_from
 length-marked finding place [] = refl

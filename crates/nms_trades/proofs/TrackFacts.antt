@@ -168,7 +168,7 @@ pub noted_track : (version : ℕ) (limits : Limits) (was now : Track) → IsMark
     → IsNoted version limits (Some was) (Some now)
 noted_track version limits was now is = is
 
--- a mark whose limits pass a test stands for a version that does
+-- a mark whose limits pass a test gives a version that does
 pub found_at : (all : ℕ → Limits) (upto : ℕ) (marks : List Mark) (test : Test) (millionths first last k : ℕ) → IsTrack all upto marks
     → last ≤ upto → first ≤ last → k < length marks → (mark_at marks k).version ≤ last
     → (k + 1 < length marks → first < (mark_at marks (k + 1)).version) → holds_of test millionths (mark_at marks k).limits ≡ true

@@ -1,4 +1,4 @@
--- One more turn: it stands among the turns, and what was found before it stays.
+-- One more turn: it is among the turns, and what was found before it stays.
 use Rattle.std.proofs.Common.{◌≡◌, ◌≢◌, ◌<◌, ◌+◌, ◌++◌, ◌∷◌, ℕ, [], List, Contains, Option, Some, None, slice_get, slice_set, length}
 use Rattle.std.proofs.Common.{take, get_or}
 use Rattle.std.proofs.Common.{arith, inl, inr, subst, sym, ap, ◌∙◌}

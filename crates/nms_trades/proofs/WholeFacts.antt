@@ -1,4 +1,4 @@
--- The whole price that decides for a price in 1/1,000,000 dollar.
+-- The price in 1/10,000 dollar that decides for a price in 1/1,000,000 dollar.
 use Rattle.std.proofs.Common.{◌≡◌, ◌<◌, ◌≤◌, ◌*◌, ◌+◌, ◌/◌, ◌∙◌, ℕ, nat_lt, arith, inl, inr, sym}
 use Rattle.std.proofs.lemmas.Bool.{cases_lt, le-ltb, lt-ltb}
 

@@ -1,5 +1,5 @@
 -- How many executions there are, and how many traded through. This product's own rule.
-use Rattle.std.specs.Prelude.{ℕ, Bool, true, false, length, nat_lt, not, Option, Some, None, slice_get, unwrap_or, if◌then◌else◌}
+use Rattle.std.specs.Prelude.{ℕ, Bool, true, false, ◌||◌, length, nat_lt, not, Option, Some, None, slice_get, unwrap_or, if◌then◌else◌}
 use Rattle.nms_trades.specs.declared.finding.Finding.{Finding}
 use Rattle.nms_trades.specs.declared.standing.Standing.{Standing}
 use Rattle.nms_trades.specs.declared.standing.Standing.TheVariants as standing
@@ -35,11 +35,15 @@ is_other standing.Perhaps = false
 is_other standing.Through = false
 is_other standing.Other = true
 
+-- whether it traded through, or perhaps did
+abbrev pub passes_some : Standing → Bool
+passes_some standing = is_through standing || is_perhaps standing
+
 -- whether it is judged here
 abbrev pub is_judged : Standing → Bool
 is_judged standing = not (is_other standing)
 
--- whether a finding is of such a standing
+-- whether a finding has such a standing
 abbrev pub stands : (Standing → Bool) → Option Finding → Bool
 stands test None = false
 stands test (Some finding) = test finding.standing

@@ -1,19 +1,24 @@
 -- Worked examples of what is found and written of executions. The right-hand sides are worked out by hand.
-use Rattle.std.specs.Prelude.{ℕ, ◌≡◌, true, false, [], ◌∷◌, codes, map, pos, Some, None}
+use Rattle.std.specs.Prelude.{ℕ, ◌≡◌, true, false, [], ◌∷◌, codes, map, neg_ℤ, pos, Some, None}
 use Rattle.nms_quote.specs.Members.{nobody}
 use Rattle.nms_quote.specs.Tape.{Tape}
 use Rattle.nms_quote.specs.declared.change.Change.TheVariants as change
 use Rattle.nms_quote.specs.declared.side_quote.QState.TheVariants.{Automated}
+use Rattle.nms_quote.specs.declared.side_quote.Side.TheVariants.{Bid}
 use Rattle.nms_show.specs.declared.ending.Ending.TheVariants as ending
 use Rattle.nms_trades.specs.Answers.{in_order, number_of}
+use Rattle.nms_trades.specs.Columns.{clock_text, worst_by}
 use Rattle.nms_trades.specs.Files.{ending_of}
 use Rattle.nms_trades.specs.Lines.{causes_text}
+use Rattle.nms_trades.specs.Quality.{quality_at, quality_between, size_class}
 use Rattle.nms_trades.specs.Quoted.{is_unquoted}
 use Rattle.nms_trades.specs.Stretch.{is_own}
 use Rattle.nms_trades.specs.Sums.{Marked, sums_in}
 use Rattle.nms_trades.specs.declared.claims.Claims.{Claims}
+use Rattle.nms_trades.specs.declared.execution.Deal.TheVariants.{Bought, Sold}
 use Rattle.nms_trades.specs.declared.execution.Execution.{Execution}
 use Rattle.nms_trades.specs.declared.execution_file.Refusal.{Refusal}
+use Rattle.nms_trades.specs.declared.quality.Place.TheVariants as place
 use Rattle.nms_trades.specs.declared.stretch.Stretch.{Stretch}
 use Rattle.nms_trades.specs.declared.trade_fault.TradeFault.TheVariants as fault
 
@@ -105,3 +110,84 @@ pub record ExamplesHold : Type 0 where
   -- a call that refuses no record, and one that refuses two
   pub none_refused : ending_of [] ≡ ending.Done
   pub two_refused : ending_of (refused_as 2 ∷ refused_as 4 ∷ []) ≡ ending.Refused
+  pub a_time : clock_text 93000000000001 ≡ codes "09:30:00.000000001"
+  -- the first bid is worst passed; if self-help takes the only one out, none is
+  pub the_first_is_worst : (execution : Execution)
+      → worst_by (sold execution claims_nothing) 20000 ((Bid, first_bid.0) ∷ (Bid, second_bid.0) ∷ []) ≡ Some 0
+  pub a_helped_one_is_not : (execution : Execution) → worst_by (sold execution claims_some) 10000 ((Bid, second_bid.0) ∷ []) ≡ None
+  -- a bid of 10.00 dollars and an offer of 10.02, whose midpoint is 10.01: bought at 10.015
+  pub bought_between : quality_at (Some Bought) 10000000 10020000 10015000 ≡ record {
+    quoted = pos 20000000;
+    effective = pos 10000000;
+    place = place.Improved;
+    improvement = Some (pos 5000000);
+  }
+  -- at 10.02
+  pub bought_at_the_offer : quality_at (Some Bought) 10000000 10020000 10020000 ≡ record {
+    quoted = pos 20000000;
+    effective = pos 20000000;
+    place = place.At;
+    improvement = Some (pos 0);
+  }
+  -- at 10.03
+  pub bought_outside : quality_at (Some Bought) 10000000 10020000 10030000 ≡ record {
+    quoted = pos 20000000;
+    effective = pos 40000000;
+    place = place.Outside;
+    improvement = Some (pos 0);
+  }
+  -- sold at the midpoint, and at 10.03
+  pub sold_at_the_midpoint : quality_at (Some Sold) 10000000 10020000 10010000 ≡ record {
+    quoted = pos 20000000;
+    effective = pos 0;
+    place = place.Improved;
+    improvement = Some (pos 10000000);
+  }
+  pub sold_above_the_offer : quality_at (Some Sold) 10000000 10020000 10030000 ≡ record {
+    quoted = pos 20000000;
+    effective = neg_ℤ (pos 40000000);
+    place = place.Improved;
+    improvement = Some (pos 30000000);
+  }
+  -- the side is not known: at 10.005, at the bid, and at 10.03
+  pub unknown_between : quality_at None 10000000 10020000 10005000 ≡ record {
+    quoted = pos 20000000;
+    effective = pos 10000000;
+    place = place.Inside;
+    improvement = None;
+  }
+  pub unknown_at_the_bid : quality_at None 10000000 10020000 10000000 ≡ record {
+    quoted = pos 20000000;
+    effective = pos 20000000;
+    place = place.AtBid;
+    improvement = None;
+  }
+  pub unknown_outside : quality_at None 10000000 10020000 10030000 ≡ record {
+    quoted = pos 20000000;
+    effective = pos 40000000;
+    place = place.Outside;
+    improvement = None;
+  }
+  -- locked at 10.02
+  pub unknown_in_a_locked_market : quality_at None 10020000 10020000 10020000 ≡ record {
+    quoted = pos 0;
+    effective = pos 0;
+    place = place.At;
+    improvement = None;
+  }
+  -- crossed: a bid of 10.04 above an offer of 10.02
+  pub unknown_in_a_crossed_market : quality_at None 10040000 10020000 10020000 ≡ record {
+    quoted = neg_ℤ (pos 20000000);
+    effective = pos 20000000;
+    place = place.Crossed;
+    improvement = None;
+  }
+  pub bought_in_a_crossed_market : quality_at (Some Bought) 10040000 10020000 10020000 ≡ record {
+    quoted = neg_ℤ (pos 20000000);
+    effective = neg_ℤ (pos 20000000);
+    place = place.At;
+    improvement = Some (pos 0);
+  }
+  pub no_offer : (execution : Execution) → quality_between execution (Some first_bid.0) None ≡ None
+  pub sizes : map size_class (1 ∷ 99 ∷ 100 ∷ 499 ∷ 500 ∷ 1999 ∷ 2000 ∷ 4999 ∷ 5000 ∷ 9999 ∷ 10000 ∷ [])
+      ≡ 0 ∷ 0 ∷ 1 ∷ 1 ∷ 2 ∷ 2 ∷ 3 ∷ 3 ∷ 4 ∷ 4 ∷ 5 ∷ []

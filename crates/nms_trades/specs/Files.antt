@@ -12,12 +12,13 @@ use Rattle.nms_lines.specs.Records.{AreAllRecords, BeginRecords}
 use Rattle.nms_show.specs.declared.ending.Ending.{Ending}
 use Rattle.nms_show.specs.declared.ending.Ending.TheVariants as ending
 use Rattle.nms_show.specs.declared.form.Form.{Form}
+use Rattle.nms_show.specs.declared.form.Form.TheVariants as form
 use Rattle.nms_show.specs.declared.show_fault.ShowFault.TheVariants as show_fault
 use Rattle.nms_times.specs.Faults.{IsFall}
 use Rattle.nms_times.specs.Times.{between}
 use Rattle.nms_times.specs.declared.times_fault.TimesFault.{TimesFault}
 use Rattle.nms_times.specs.declared.times_fault.TimesFault.TheVariants as times_fault
-use Rattle.nms_trades.specs.Answers.{AreNumbered, answers_text, is_lines}
+use Rattle.nms_trades.specs.Answers.{AreNumbered, answers_text, columns_text}
 use Rattle.nms_trades.specs.Found.{IsJudged}
 use Rattle.nms_trades.specs.Reading.{IsInWindow, IsOn}
 use Rattle.nms_trades.specs.Turns.{AreAnswered}
@@ -63,7 +64,7 @@ abbrev pub IsFallIn : (symbols : Option (List ℕ)) → (times : List ℕ) → T
 IsFallIn None times refused = IsFall times 0 refused
 IsFallIn (Some text) times refused = (before : ℕ) × (last : ℕ) × IsFall (between times before last) before refused
 
--- why times are refused that are as many as the changes, or memory ran out for them
+-- why times are refused whose number is that of the changes, or out of memory for them
 abbrev pub IsTimingFault : (symbols : Option (List ℕ)) → (times : List ℕ) → TradesFault → Type 0
 IsTimingFault symbols times (fault.Changes refused) = ⊥
 IsTimingFault symbols times (fault.Executions refused) = ⊥
@@ -73,14 +74,14 @@ IsTimingFault symbols times (fault.Board refused) = ⊥
 IsTimingFault symbols times fault.TooLong = ⊥
 IsTimingFault symbols times (fault.Show refused) = refused ≡ show_fault.NoMemory
 
--- why times that are given are refused: they are not as many as the changes, or one falls; without times there is no such fault
+-- why times that are given are refused: their number is not that of the changes, or one falls; without times there is no such fault
 abbrev pub IsClockFault : Option Timing → (changes : ℕ) → TradesFault → Type 0
 IsClockFault None changes why = ⊥
 IsClockFault (Some timing) changes why =
     ((why ≡ fault.Times times_fault.OtherLength) × (length timing.times.now ≢ changes))
     ⊎ ((length timing.times.now ≡ changes) × IsTimingFault (option_copied timing.symbols) timing.times.now why)
 
--- why the records of a file are not read: the source failed or memory ran out, or there are more than are taken
+-- why the records of a file are not read: the source failed, or out of memory, or there are more than are taken
 abbrev pub IsReadingFault : (bytes : Option (List ℕ)) → TradesFault → Type 0
 IsReadingFault bytes (fault.Changes refused) = ⊥
 IsReadingFault bytes (fault.Executions refused) = ⊤
@@ -90,6 +91,13 @@ IsReadingFault bytes (fault.Board refused) = ⊥
 IsReadingFault bytes fault.TooLong = HasMoreThan MOST_EXECUTIONS bytes
 IsReadingFault bytes (fault.Show refused) = ⊥
 
+-- whether answers are counts and sums
+abbrev pub is_table : Layout → Bool
+is_table layout.Lines = false
+is_table layout.Table = true
+is_table layout.Quality = true
+is_table layout.Columns = false
+
 -- why the answers are not written to the end: only sums that no number holds leave a table unwritten
 abbrev pub IsWritingFault : Layout → TradesFault → Type 0
 IsWritingFault wanted (fault.Changes refused) = ⊥
@@ -97,7 +105,7 @@ IsWritingFault wanted (fault.Executions refused) = ⊥
 IsWritingFault wanted (fault.Times refused) = ⊥
 IsWritingFault wanted (fault.Symbols refused) = ⊥
 IsWritingFault wanted (fault.Board refused) = ⊥
-IsWritingFault wanted fault.TooLong = wanted ≡ layout.Table
+IsWritingFault wanted fault.TooLong = is_table wanted ≡ true
 IsWritingFault wanted (fault.Show refused) = ⊤
 
 -- no memory for the board or for what is found
@@ -121,10 +129,24 @@ IsFileTradesFault settings changes executions timing wanted other =
     (tape : Tape) × IsFileTape settings changes tape
     × (IsSourceFault timing (length tape) executions other ⊎ (IsBoardFault other ⊎ IsWritingFault wanted other))
 
--- whether answers are records of text, and not objects or a table
+-- whether answers are lines of text
+abbrev pub is_lines : Form → Bool
+is_lines (form.Text colours) = true
+is_lines form.Json = false
+
+-- whether answers are records of text, and not objects or tables. Columns are text in any form
 abbrev pub is_csv : Layout → Form → Bool
 is_csv layout.Lines form = is_lines form
 is_csv layout.Table form = false
+is_csv layout.Quality form = false
+is_csv layout.Columns form = true
+
+-- their text. Nothing is promised about tables
+abbrev pub text_in : Layout → Listing → List Execution → List Refusal → List (Option Finding) → List ℕ
+text_in layout.Lines roster executions refused found = answers_text roster executions refused found
+text_in layout.Table roster executions refused found = []
+text_in layout.Quality roster executions refused found = []
+text_in layout.Columns roster executions refused found = columns_text roster executions refused found
 
 -- the records of a file, with what is found on a tape of each execution among them
 pub record AreJudged (roster : Listing) (tape : Tape) (bytes : Option (List ℕ)) (executions : List Execution) (refused : List Refusal)
@@ -142,7 +164,7 @@ pub record IsJudgedOn (roster : Listing) (tape : Tape) (bytes : Option (List ℕ
   pub found : List (Option Finding)
   pub judged : AreJudged roster tape bytes executions refused found
   pub ends : ended ≡ ending_of refused
-  pub written : is_csv wanted form ≡ true → Appends old new (answers_text roster executions refused found)
+  pub written : is_csv wanted form ≡ true → Appends old new (text_in wanted roster executions refused found)
 
 -- the same on the tape of a file of changes
 pub record IsJudgedFile (settings : Settings) (changes executions : Option (List ℕ)) (form : Form) (wanted : Layout)

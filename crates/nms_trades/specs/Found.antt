@@ -1,4 +1,4 @@
--- All that is found of an execution: on the version in force, on those of its window, and on those of the second before it.
+-- All that is found about an execution: on the version in force, on those of its window, and on those of the second before it.
 use Rattle.std.specs.Prelude.{ℕ, ◌≡◌, ◌==◌, ◌&&◌, ◌⊎◌, Bool, false, List, [], length, map, slice_get, Option, Some, None}
 use Rattle.nms_quote.specs.Roster.{Sizes}
 use Rattle.nms_quote.specs.Tape.{Tape}
@@ -29,7 +29,7 @@ abbrev pub has_flickered : Sizes → Tape → Execution → Side × Row → Bool
 has_flickered sizes tape execution passed =
     flickers sizes tape execution.sym execution.millionths execution.second_before execution.version passed.0 passed.1.part
 
--- the same of each; of none if the time of the execution is not known
+-- the same for each; for none if the time of the execution is not known
 abbrev pub if_timed : Option ℕ → List Bool → List Bool
 if_timed None marks = []
 if_timed (Some time) marks = marks
@@ -43,7 +43,7 @@ pub record IsJudged (sizes : Sizes) (tape : Tape) (execution : Execution) (findi
   pub standing : finding.standing ≡ answer_in sizes tape execution
   pub flickers : finding.flickers.items ≡ flickers_of sizes tape execution finding.passed.items
 
--- the same but for flickering quotations, which were not looked for
+-- the same except for flickering quotations, which were not looked for
 pub record IsStanding (sizes : Sizes) (tape : Tape) (execution : Execution) (finding : Finding) : Type 0 where
   pub own : IsFound sizes tape execution finding
   pub standing : finding.standing ≡ answer_in sizes tape execution
@@ -59,7 +59,7 @@ pub record IsWeighed (sizes : Sizes) (tape : Tape) (execution : Execution) (find
 abbrev pub is_alone : Execution → Bool
 is_alone execution = execution.first == execution.version && execution.last == execution.version
 
--- the best prices of the symbol of an execution that is not alone are known
+-- the best prices of the symbol are known for an execution whose window has several versions
 abbrev pub IsReady : Sizes → Tape → List Track → Execution → Type 0
 IsReady sizes tape bests execution =
     is_alone execution ≡ false → HasTrack (best_at sizes tape execution.sym) (length tape) (slice_get bests execution.sym)

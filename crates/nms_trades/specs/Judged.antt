@@ -1,4 +1,4 @@
--- What is found of an execution: the protected quotations that it trades through in the version in force (17 CFR 242.600,
+-- What is found about an execution: the protected quotations that it trades through in the version in force (17 CFR 242.600,
 -- "trade-through"; 242.611(a)), and whether the market was crossed (242.611(b)(4)).
 use Rattle.std.specs.Prelude.{ℕ, ◌≡◌, ◌+◌, ◌/◌, ◌++◌, Bool, false, List, filter, map, nat_lt, Option, Some, None}
 use Rattle.std.specs.List.{find}
@@ -47,7 +47,7 @@ is_crossed bids offers = is_above (best_protected bids) (best_protected offers)
 abbrev pub best_in : Seen → Best
 best_in seen = record { bid = ranked_at Bid seen.bids 0; offer = ranked_at Offer seen.offers 0 }
 
--- what is found of an execution at a price, on what is seen
+-- what is found about an execution at a price, on what is seen
 pub record IsFoundOn (seen : Seen) (millionths : ℕ) (finding : Finding) : Type 0 where
   pub passed : finding.passed.items ≡ passed_at seen millionths
   pub crossed : finding.crossed ≡ is_crossed (ranked Bid seen.bids) (ranked Offer seen.offers)

@@ -5,6 +5,7 @@ pub mod Answers
 pub mod Around
 pub mod Bests
 pub mod Causes
+pub mod Columns
 pub mod Counts
 pub mod Examples
 pub mod Faults
@@ -15,6 +16,7 @@ pub mod Found
 pub mod Judged
 pub mod Lines
 pub mod Parts
+pub mod Quality
 pub mod Quoted
 pub mod Reading
 pub mod Stretch

@@ -70,7 +70,7 @@ abbrev pub records_of_row : Listing → Execution → Side → Row → Bool → 
 records_of_row roster execution side row flickers =
     if is_helped execution row then [] else row_record roster execution side row flickers ∷ []
 
--- the records of rows that stand from a place on among those traded through
+-- the records of rows from a place on among those traded through
 unfoldable pub row_records : Listing → Execution → Finding → (place : ℕ) → List (Side × Row) → List Record
 row_records roster execution finding place [] = []
 row_records roster execution finding place (passed ∷ rest) =

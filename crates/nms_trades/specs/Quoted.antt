@@ -1,5 +1,5 @@
--- Whether a symbol has been quoted (17 CFR 242.600, "bid or offer"): an execution in one that nobody has quoted yet is not clean, since
--- there is nothing to judge it by. This product's own rule.
+-- Whether a symbol has been quoted (17 CFR 242.600, "bid or offer"). An execution in one that no participant has quoted yet is
+-- not clean, because there is nothing to judge it by. This product's own rule.
 use Rattle.std.specs.Prelude.{ℕ, ◌≡◌, ◌≤◌, ◌==◌, ◌&&◌, Bool, false, List, nat_le, nat_lt, not, slice_get, Option, Some, None, if◌then◌else◌}
 use Rattle.std.specs.List.{list_any}
 use Rattle.nms_quote.specs.Tape.{Tape, version}
@@ -20,7 +20,7 @@ is_quotation sym (change.Lot s lot) = false
 abbrev pub is_unquoted : Tape → (sym n : ℕ) → Bool
 is_unquoted tape sym n = not (list_any (is_quotation sym) (version n tape))
 
--- a standing, but for a clean one of a symbol that was not quoted
+-- a standing, except a clean one in a symbol that was not quoted
 abbrev pub if_quoted : (unquoted : Bool) → Standing → Standing
 if_quoted unquoted standing.Clean = if unquoted then standing.Unquoted else standing.Clean
 if_quoted unquoted standing.Unquoted = standing.Unquoted

@@ -66,7 +66,7 @@ pub record IsOn (roster : Listing) (changes : ℕ) (execution : Execution) : Typ
 abbrev pub IsInWindow : Execution → Type 0
 IsInWindow execution = IsWithin execution.first execution.version execution.last
 
--- the execution that a record says, but for its flags
+-- the execution that a record says, except for its flags
 pub record IsReadFrom (roster : Listing) (clock : Clock) (fields : Record) (execution : Execution) : Type 0 where
   pub kind : is_text (codes "D") (field fields 0) ≡ true
   pub count : length fields ≡ 9

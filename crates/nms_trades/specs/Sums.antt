@@ -27,7 +27,7 @@ is_helped execution row = has_part execution.claims.self_help row.part
 abbrev pub Marked : Type 0
 Marked = Row × Bool
 
--- quotations that stand from a place on among those of a finding
+-- quotations from a place on among those of a finding
 unfoldable pub marked_from : Finding → (place : ℕ) → List (Side × Row) → List Marked
 marked_from finding place [] = []
 marked_from finding place (passed ∷ rest) = (passed.1, flickers_at finding place) ∷ marked_from finding (suc place) rest
@@ -71,7 +71,7 @@ sums_in execution shares marked =
       flickers = count_by (λ one. one.1) left;
     }
 
--- the sums of what is found of an execution
+-- the sums of what is found about an execution
 abbrev pub sums_found : Execution → Finding → Sums
 sums_found execution finding = sums_in execution execution.shares (marked_rows finding)
 

@@ -30,7 +30,7 @@ timed clock stretch rising t = record {
   other = not (is_own clock.before stretch t);
 }
 
--- an execution on a version, whose time is not known: that version alone
+-- an execution on a version, whose time is not known: only that version
 abbrev pub untimed : ℕ → When
 untimed n = record { version = n; first = n; last = n; second_before = n; time = None; other = false }
 

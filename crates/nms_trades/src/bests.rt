@@ -14,7 +14,7 @@ use nms_quote::{Change, Side, Sym};
 use nms_stream::{Replay, Tape};
 use std::alloc::{AllocError, Global};
 
-/// The best protected prices of each symbol, by its place, in each version of the changes. One board moves along them once.
+/// The best protected prices of each symbol, by its place, in each version of the changes. One board passes through them once.
 pub(crate) fn bests_of(alloc: Global, tape: &Tape<'_>) -> Result<Vec<Track>, BoardFault>
     ensures { IfOk result (λ bests. AreBests (sizes_in tape.now) tape.now.changes.items (length tape.now.changes.items) bests.items) }
 {
@@ -31,7 +31,7 @@ pub(crate) fn bests_of(alloc: Global, tape: &Tape<'_>) -> Result<Vec<Track>, Boa
     Ok(bests)
 }
 
-/// Notes the best prices after a change, of the symbols that it concerns.
+/// Notes the best prices after a change, for the symbols that it concerns.
 fn note_change(board: &Boards, change: &Change, bests: &mut Vec<Track>) -> Result<(), AllocError>
     requires held { holds board.now.sizes change.now ≡ true }
     requires count { length bests.old.items ≡ length board.now.sizes.lots }
@@ -56,7 +56,7 @@ fn note_all(board: &Boards, bests: &mut Vec<Track>) -> Result<(), AllocError>
     ensures { OnOk result (AreNoted (λ sym. sym) board.now.applied (λ sym. limits_of (seen_on board.now sym)) (length bests.old.items)
         bests.old.items bests.new.items) }
 {
-    // A board has at most `MOST_SYMBOLS` symbols.
+    // The prover has to see that a board has at most `MOST_SYMBOLS` symbols.
     board.stands_for_a_tape();
     for place in 0..bests.len() {
         note_sym(board, Sym::new(place as u16).unwrap(), bests)?;
@@ -80,7 +80,7 @@ fn note_sym(board: &Boards, sym: Sym, bests: &mut Vec<Track>) -> Result<(), Allo
     note_at(bests, usize::from(sym.get()), board.applied(), limits)
 }
 
-/// The price of a side's best protected quotation in a symbol, if there is one. Rows are read in rank order up to that one.
+/// The price of a side's best protected quotation in a symbol, if there is one. Rows are read in rank order up to that quotation.
 fn best_price(board: &Boards, side: Side, sym: Sym) -> Option<u64>
     requires { sym < length board.now.sizes.lots }
     ensures { result ≡ best_price (ranked side (rows_held board.now sym side)) }

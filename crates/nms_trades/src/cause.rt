@@ -7,7 +7,7 @@ use crate::claims::Claims;
 /// How many causes there are.
 pub const CAUSES: usize = 13;
 
-/// Why a trade-through may be lawful, in the order of 17 CFR 242.611(b); then what no paragraph of it says.
+/// Why a trade-through may be lawful, in the order of 17 CFR 242.611(b). After those come the causes that no paragraph of it names.
 #[derive(Clone, Copy)]
 pub enum Cause {
     /// (b)(1): self-help is claimed against a participant that was traded through.
@@ -24,23 +24,22 @@ pub enum Cause {
     Swept,
     /// (b)(7): a benchmark price is claimed.
     Benchmark,
-    /// (b)(8): within one second before, each participant that is left had shown a protected quotation at the price or
-    /// inferior to it.
+    /// (b)(8): within one second before, each remaining participant had shown a protected quotation at the price or inferior to it.
     Flicker,
     /// (b)(9): a stopped order is claimed.
     Stopped,
     /// A qualified contingent trade is claimed.
     Contingent,
-    /// It is marked exempt, without a reason.
+    /// The execution is marked exempt, without a reason.
     Exempt,
-    /// It is claimed to be outside regular trading hours.
+    /// It is claimed that the execution was outside regular trading hours.
     OutsideHours,
-    /// It is claimed to be out of sequence.
+    /// It is claimed that the execution is out of sequence.
     OutOfSequence,
 }
 
 impl Cause {
-    /// Each of them, in order.
+    /// All causes, in order.
     pub const ALL: [Cause; CAUSES] = [
         Cause::SelfHelp,
         Cause::NotRegular,
@@ -57,7 +56,7 @@ impl Cause {
         Cause::OutOfSequence,
     ];
 
-    /// Its word. What is claimed and not found says so.
+    /// The word for the cause. It shows whether the cause is claimed or found.
     pub fn word(self) -> &'static str
         ensures { result.now ≡ word_of self }
     {
@@ -78,8 +77,8 @@ impl Cause {
         }
     }
 
-    /// Whether it applies: by what is claimed, by the crossed market, by the rows that self-help takes out, and by
-    /// whether those that are left flickered.
+    /// Whether the cause applies. This depends on what is claimed, on the crossed market, on the rows that self-help takes out,
+    /// and on whether the other rows flickered.
     pub fn applies(self, claims: &Claims, crossed: bool, helped: bool, flickering: bool) -> bool
         ensures { result ≡ applies self claims.now crossed helped flickering }
     {

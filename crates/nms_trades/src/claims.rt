@@ -1,7 +1,7 @@
 //! The exceptions that an execution claims.
 use nms_quote::PartSet;
 
-/// The exceptions that an execution claims by its flags. None of them is checked.
+/// The exceptions that an execution claims by its flags. No claim is checked.
 #[derive(Clone, Copy)]
 pub struct Claims {
     /// `H=N/P`: the participants against which self-help was declared (242.611(b)(1)).

@@ -1,4 +1,4 @@
-//! When an execution took place: versions that are found by their times: `specs/When`.
+//! When an execution was made: versions that are found by their times: `specs/When`.
 ghost use Rattle.std.specs.Prelude.{◌≡◌, ◌≢◌, ◌≤◌, ◌+◌, IfErr, IfOk, IfSome, None, Some, drop, length, option_copied, slice_index};
 ghost use Rattle.nms_trades.specs.Files.{IsClockFault, IsTimingFault};
 ghost use Rattle.nms_trades.specs.When.{AreOfChanges, IsWithin, at_time, stretch_in, timed, version_by, when_in};
@@ -13,7 +13,7 @@ use nms_times::{Rising, TimeOfDay, Times, find_span, versions_rise_with_time};
 use nms_units::parse_digits;
 use std::alloc::Global;
 
-/// The nanoseconds of a second.
+/// Nanoseconds in a second.
 const SECOND: u64 = 1_000_000_000;
 
 /// The times of the changes, and how versions are found by them.
@@ -21,11 +21,11 @@ const SECOND: u64 = 1_000_000_000;
 pub struct Timing<'a> {
     /// The times, one for each change.
     pub times: &'a Times,
-    /// The text of the file of symbols, if the times rise within a symbol alone. Of a shard it also says which symbols are cut.
+    /// The text of the file of symbols, if the times rise only within a symbol. For a shard it also says which symbols are cut.
     pub symbols: Option<&'a [u8]>,
     /// Whether the changes of an execution's own time are left out.
     pub before: bool,
-    /// The nanoseconds before and after an execution's time whose versions it is judged on too.
+    /// How many nanoseconds before and after its time an execution is judged on too.
     pub window: u64,
 }
 
@@ -34,19 +34,19 @@ pub struct Timing<'a> {
 pub(crate) struct Clock<'a> {
     /// How many changes there are.
     pub(crate) changes: u64,
-    /// Whether they have times.
+    /// Whether the changes have times.
     pub(crate) has_times: bool,
-    /// The times of the changes of each symbol, by its place; all of them if they rise over all symbols.
+    /// The times of the changes of each symbol, by its place. If the times rise over all symbols, they are all times.
     pub(crate) rising: Vec<Option<Rising<'a>>>,
-    /// The part of the day that the changes have of each symbol, by its place; the whole day of those that are not there.
+    /// The part of the day that the changes have of each symbol, by its place. For a symbol that is not here it is the whole day.
     pub(crate) stretches: Vec<Stretch>,
     /// Whether the changes of an execution's own time are left out.
     pub(crate) before: bool,
-    /// The nanoseconds before and after an execution's time whose versions it is judged on too.
+    /// How many nanoseconds before and after its time an execution is judged on too.
     pub(crate) window: u64,
 }
 
-/// When an execution took place.
+/// When an execution was made.
 #[derive(Clone, Copy)]
 pub(crate) struct When {
     /// The version that was in force.
@@ -64,7 +64,7 @@ pub(crate) struct When {
 }
 
 impl Clock<'_> {
-    /// When an execution in a symbol took place, as a text says: a version, or `@` and a time.
+    /// When an execution in a symbol was made, as a text says: a version, or `@` and a time.
     pub(crate) fn when_in(&self, text: &[u8], sym: Sym) -> Result<When, TradeFault>
         requires { AreOfChanges self.now.changes self.now.rising.items }
         ensures when { result ≡ when_in self.now sym text.now }
@@ -94,7 +94,7 @@ impl Clock<'_> {
         }
     }
 
-    /// When an execution in a symbol took place, at a time.
+    /// When an execution in a symbol was made, by its time.
     fn at_time(&self, time: TimeOfDay, sym: Sym) -> Result<When, TradeFault>
         requires { AreOfChanges self.now.changes self.now.rising.items }
         ensures when { result ≡ at_time self.now sym (Some time) }
@@ -128,7 +128,7 @@ impl Clock<'_> {
         }
     }
 
-    /// An execution at a time, among these times of a part of the day.
+    /// When an execution at a time was made, by the times of a part of the day.
     fn timed(&self, rising: &Rising<'_>, stretch: Stretch, time: TimeOfDay) -> When
         requires { rising.now.before + length rising.now.times.now ≤ self.now.changes }
         ensures when { result ≡ timed self.now stretch rising.now time }
@@ -162,7 +162,7 @@ fn version_by(before: bool, rising: &Rising<'_>, time: TimeOfDay) -> u64
     }
 }
 
-/// What stands after `@`.
+/// The text after `@`.
 fn time_text(text: &[u8]) -> Option<&[u8]>
     ensures at { IfSome result (λ digits. (slice_index text.now 0 ≡ 64) × (digits.now ≡ drop 1 text.now)) }
     ensures other { result ≡ None → slice_index text.now 0 ≢ 64 }
@@ -174,7 +174,7 @@ fn time_text(text: &[u8]) -> Option<&[u8]>
     }
 }
 
-/// The clock of a roster's symbols and a number of changes. Without times, no time has a version.
+/// The clock for a roster's symbols and a number of changes. Without times, no time has a version.
 pub(crate) fn clock_of<'a>(
     alloc: Global,
     roster: &Roster,
@@ -215,7 +215,7 @@ pub(crate) fn clock_of<'a>(
     })
 }
 
-/// All times, for each symbol.
+/// All times, given for each symbol.
 fn over_all<'a>(
     alloc: Global,
     roster: &Roster,
@@ -267,7 +267,7 @@ fn stretches_of(
 ) -> Result<Vec<Stretch>, TradesFault>
     ensures { IfErr result (IsTimingFault (Some text.now) times.now) }
 {
-    // Only the clause speaks of the times.
+    // The parameter is there because the clause speaks of the times.
     let _ = times;
     let mut all = Vec::new(alloc);
     for place in 0..roster.syms() as u16 {

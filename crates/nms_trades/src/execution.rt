@@ -8,7 +8,7 @@ use nms_units::Shares;
 /// The most bytes of an execution's name.
 pub(crate) const MOST_NAME: usize = 32;
 
-/// Whether an execution bought or sold. It is not judged: a trade is both.
+/// Whether an execution bought or sold. That is not judged, because a trade is both.
 #[derive(Clone, Copy)]
 pub enum Deal {
     /// `B`
@@ -20,7 +20,7 @@ pub enum Deal {
 /// An execution, as a record gives it.
 #[derive(Drop)]
 pub struct Execution {
-    /// The number of its record, from 1.
+    /// The number of its record, counted from 1.
     pub number: u64,
     /// The name that the record gives it.
     pub name: ArrayVec<u8, MOST_NAME>,
@@ -34,9 +34,9 @@ pub struct Execution {
     pub deal: Option<Deal>,
     /// The version of the changes that was in force.
     pub version: u64,
-    /// The first version of its window: `version` without one.
+    /// The first version of its window; `version` if it has no window.
     pub first: u64,
-    /// The last version of its window: `version` without one.
+    /// The last version of its window; `version` if it has no window.
     pub last: u64,
     /// The version that was in force one second before; `version` if the time is not known.
     pub second_before: u64,
@@ -44,7 +44,7 @@ pub struct Execution {
     pub time: Option<TimeOfDay>,
     /// Whether another shard has the changes of its symbol at that time, and judges it.
     pub other: bool,
-    /// Where it was executed; `None` off an exchange.
+    /// The exchange on which it was executed; `None` off an exchange.
     pub part: Option<Part>,
     /// The exceptions that it claims.
     pub claims: Claims,

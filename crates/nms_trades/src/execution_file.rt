@@ -1,4 +1,4 @@
-//! A file of executions, read record by record: `specs/Reading`.
+//! Reading a file of executions, record by record: `specs/Reading`.
 ghost use Rattle.std.specs.Prelude.{ℕ, ◌≡◌, ◌+◌, [], All, IfErr, IfOk, List, OnOk, Option};
 ghost use Rattle.nms_lines.specs.Records.{ReadsFrom};
 ghost use Rattle.nms_trades.specs.Answers.{AreNumbered};
@@ -21,23 +21,23 @@ use std::io::Read;
 /// A record that is refused.
 #[derive(Clone, Copy)]
 pub struct Refusal {
-    /// The number of the record, from 1. A blank line is no record.
+    /// The number of the record, counted from 1. A blank line is no record.
     pub number: u64,
-    /// Why it is refused.
+    /// Why the record is refused.
     pub fault: TradeFault,
 }
 
-/// The records of a file: those that say an execution, and those that are refused, each in order.
+/// The records of a file: those that give an execution, and those that are refused, each in order.
 #[derive(Drop)]
 pub struct Records {
     /// The executions, in the order of their records.
     pub executions: Vec<Execution>,
-    /// The records that are refused, likewise.
+    /// The records that are refused, in the same order.
     pub refused: Vec<Refusal>,
 }
 
 impl Records {
-    /// How a call that answers them ends: `Refused` if one is refused, else `Done`.
+    /// How a call that answers the records ends: `Refused` if any is refused, else `Done`.
     pub fn ending(&self) -> Ending
         ensures { result ≡ ending_of self.now.refused.items }
     {
@@ -49,7 +49,8 @@ impl Records {
     }
 }
 
-/// Reads all executions of a file, at most `MOST_EXECUTIONS`. One that is refused does not stop the others. The clock finds their versions.
+/// Reads all executions of a file, at most `MOST_EXECUTIONS`. The reading goes on after a refused one. The clock finds their
+/// versions.
 pub(crate) fn read_executions<R: Read + Drop>(
     alloc: Global,
     roster: &Roster,
@@ -72,7 +73,7 @@ pub(crate) fn read_executions<R: Read + Drop>(
     Ok(records)
 }
 
-/// Takes the records that are left.
+/// Takes the remaining records.
 fn take_records<R: Read>(
     reader: &mut Reader<R>,
     row: &mut ByteRecord,
@@ -104,7 +105,7 @@ fn take_records<R: Read>(
     }
 }
 
-/// Takes the record of a number.
+/// Takes the record with a number.
 fn take_record(
     row: &ByteRecord,
     roster: &Roster,

@@ -1,4 +1,4 @@
-//! What is found of an execution.
+//! What is found about an execution.
 ghost use Rattle.std.specs.Prelude.{◌≡◌, not};
 ghost use Rattle.nms_trades.specs.Counts.{flickers_at, passes};
 
@@ -6,8 +6,8 @@ use crate::standing::Standing;
 use nms_board::Row;
 use nms_quote::Side;
 
-/// The best bid and the best offer of an execution's version in its symbol (17 CFR 242.600, "national best bid and national best
-/// offer"), `None` if a side has no quotation. A best quotation need not be protected.
+/// The best bid and the best offer of an execution's version in its symbol (17 CFR 242.600, "national best bid and national
+/// best offer"). A side is `None` if it has no quotation. A best quotation need not be protected.
 #[derive(Clone, Copy)]
 pub struct Best {
     /// The bid that ranks first.
@@ -16,7 +16,7 @@ pub struct Best {
     pub offer: Option<Row>,
 }
 
-/// What is found of an execution on its version.
+/// What is found about an execution on its version.
 #[derive(Drop)]
 pub struct Finding {
     /// The protected quotations that it trades through: the bids, then the offers, each in rank order.
@@ -25,10 +25,11 @@ pub struct Finding {
     pub crossed: bool,
     /// The best quotations of its version.
     pub best: Best,
-    /// Whether it trades through on the versions of its window; without one, on its version.
+    /// Whether it trades through on the versions of its window. Without a window, on its version.
     pub standing: Standing,
-    /// Of each of the quotations, in their order, whether it flickered: within one second before, its participant's protected
-    /// quotation on that side was at the price or inferior to it (242.611(b)(8)). Empty if that was not looked for.
+    /// For each of the quotations, in their order, whether it flickered. It did if, within one second before, its participant's
+    /// protected quotation on that side was at the price or inferior to it (242.611(b)(8)). Empty if flickers were not looked
+    /// for.
     pub flickers: Vec<bool>,
 }
 

@@ -3,9 +3,9 @@
 use crate::claims::Claims;
 use nms_quote::{PartSet, Roster};
 
-/// The exceptions that a text claims: flags joined by `+`, none in an empty text. One that is repeated counts once.
+/// The exceptions that a text claims: flags joined by `+`, none in an empty text. A repeated flag counts once.
 ///
-/// After self-help no flag may be a participant's name too: orders join names by `+`, so `H=Z+P` could mean self-help against both.
+/// After self-help no flag may be a participant's name too. Orders join names by `+`, so `H=Z+P` could mean self-help against both.
 pub(crate) fn claims_in(text: &[u8], roster: &Roster) -> Option<Claims> {
     let mut claims = Claims::none();
     if text.is_empty() {
@@ -22,7 +22,7 @@ pub(crate) fn claims_in(text: &[u8], roster: &Roster) -> Option<Claims> {
     Some(claims)
 }
 
-/// The claims and that of one more flag.
+/// The claims with the claim of one more flag.
 fn with_flag(claims: Claims, flag: &[u8], roster: &Roster) -> Option<Claims> {
     let mut claims = claims;
     match flag {
@@ -44,7 +44,7 @@ fn with_flag(claims: Claims, flag: &[u8], roster: &Roster) -> Option<Claims> {
     Some(claims)
 }
 
-/// A set and the participants of these names too, which are joined by `/`.
+/// A set together with the participants of these names, which are joined by `/`.
 fn named_in(names: &[u8], set: PartSet, roster: &Roster) -> Option<PartSet> {
     let mut set = set;
     for name in names.split(|byte| *byte == b'/') {

@@ -18,10 +18,10 @@ use nms_quote::Side;
 use nms_stream::Tape;
 use std::alloc::{AllocError, Global};
 
-/// Says of each quotation that was traded through by an execution with a time whether it flickered.
+/// Finds for each quotation that was traded through whether it flickered, if its execution has a time.
 ///
-/// The changes are gone over once. Then each quotation takes at most one step for each change of its participant's prices in
-/// its symbol within the second before.
+/// The changes are read once. Then each quotation takes at most one step for each change of its participant's prices in its
+/// symbol within the second before.
 pub(crate) fn judge_flickers(
     alloc: Global,
     tape: &Tape<'_>,
@@ -58,7 +58,7 @@ fn may_flicker(executions: &[Execution], findings: &[Option<Finding>]) -> bool
     false
 }
 
-/// Whether no quotation can have flickered: the time is not known, or none was traded through.
+/// Whether no quotation can have flickered, because the time is not known or none was traded through.
 fn is_steady(execution: &Execution, answer: &Option<Finding>) -> bool
     ensures { result ≡ true → (finding : Finding) → answer.now ≡ Some finding → IsSteady execution.now finding }
 {
@@ -68,7 +68,7 @@ fn is_steady(execution: &Execution, answer: &Option<Finding>) -> bool
     }
 }
 
-/// Says of each quotation of each execution whether it flickered.
+/// Finds for each quotation of each execution whether it flickered.
 fn set_all(
     alloc: Global,
     tape: &Tape<'_>,
@@ -95,7 +95,7 @@ fn set_all(
     Ok(())
 }
 
-/// Says of each quotation of an execution whether it flickered, if its time is known.
+/// Finds for each quotation of an execution whether it flickered, if its time is known.
 fn set_one(
     alloc: Global,
     tape: &Tape<'_>,
@@ -138,8 +138,8 @@ fn flickers_of(
     Ok(flickers)
 }
 
-/// Whether a quotation flickered: in some version of the second before, its participant's protected quotation on its side was
-/// at the price or inferior to it.
+/// Whether a quotation flickered. It did if, in some version of the second before, its participant's protected quotation on its
+/// side was at the price or inferior to it.
 fn is_flickering(
     tape: &Tape<'_>,
     tracks: &[Track],
@@ -153,7 +153,7 @@ fn is_flickering(
     ensures { result ≡ flickers (sizes_in tape.now) tape.now.changes.items execution.now.sym execution.now.millionths execution.now.second_before
         execution.now.version side row.now.part }
 {
-    // The clauses alone speak of the tape.
+    // The parameter is there because only the clauses speak of the tape.
     let _ = tape;
     any_version(
         &tracks[place_of(row.part, execution.sym)].marks,

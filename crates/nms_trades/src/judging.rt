@@ -1,4 +1,4 @@
-//! Executions judged on the versions that they name, by one board that is moved forward: `specs/Judged`.
+//! Judging executions on the versions that they name, by one board that moves forward: `specs/Judged`.
 ghost use Rattle.std.specs.Prelude.{◌≡◌, ◌≢◌, ◌≤◌, ◌<◌, ◌++◌, [], ℕ, All, IfOk, OnOk, Some, length, map, slice_get};
 ghost use Rattle.std.specs.List.{filter};
 ghost use Rattle.nms_board.specs.declared.row.Row.{Row};
@@ -25,7 +25,7 @@ use nms_quote::Side;
 use nms_stream::{Replay, Tape};
 use std::alloc::{AllocError, Global};
 
-/// Judges an execution on its version, to which the board is moved, and on those of its window.
+/// Judges an execution on its version, to which the board has moved, and on the versions of its window.
 pub(crate) fn judge(
     alloc: Global,
     replay: &mut Replay<'_>,
@@ -44,7 +44,7 @@ pub(crate) fn judge(
     Ok(Finding { standing, ..found })
 }
 
-/// Judges a price in 1/1,000,000 dollar on what is seen. It takes memory only if a quotation is traded through.
+/// Judges a price in 1/1,000,000 dollar on a view. It takes memory only if a quotation is traded through.
 fn find_on(alloc: Global, view: &View, millionths: u64) -> Result<Finding, AllocError>
     requires { millionths ≤ 9999999999999 }
     ensures found { IfOk result (IsFoundOn view.now millionths) }
@@ -67,7 +67,7 @@ fn find_on(alloc: Global, view: &View, millionths: u64) -> Result<Finding, Alloc
     })
 }
 
-/// The best quotations of what is seen.
+/// The best quotations of a view.
 fn best_in(view: &View) -> Best
     ensures { result ≡ best_in view.now }
 {
@@ -97,10 +97,10 @@ fn push_passed(
     Ok(())
 }
 
-/// Judges executions, each on the version that was in force, on those of its window, and on those of the second before it, and
-/// gives their findings in the order of the executions.
+/// Judges executions, each on the version that was in force, on those of its window, and on those of the second before it. The
+/// findings are in the order of the executions.
 ///
-/// They are judged by version, so that one board moves along the changes once and none is looked back at.
+/// The executions are judged by version, so that one board passes through the changes once and never goes back.
 pub fn judge_all(
     alloc: Global,
     tape: &Tape<'_>,
@@ -120,7 +120,8 @@ pub fn judge_all(
     }
 }
 
-/// The same, before it is asked which quotations flickered, which symbols were quoted, and which executions another shard judges.
+/// Judges executions as `judge_all` does. But it does not yet find which quotations flickered, which symbols were quoted, and
+/// which executions another shard judges.
 fn judge_standings(
     alloc: Global,
     tape: &Tape<'_>,
@@ -144,7 +145,7 @@ fn judge_standings(
     }
 }
 
-/// A list of `count` executions with no finding yet.
+/// A list of `count` executions that have no finding yet.
 fn no_answers(alloc: Global, count: usize) -> Result<Vec<Option<Finding>>, AllocError>
     ensures { IfOk result (λ answers. length answers.items ≡ count) }
 {

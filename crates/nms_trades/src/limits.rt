@@ -44,14 +44,14 @@ fn push_some(rows: &mut ArrayVec<Row, MOST_ROWS>, row: Option<Row>)
     }
 }
 
-/// Whether a row is protected and at a better price than this one, in 1/10,000 dollar.
+/// Whether a row is protected and at a better price than the given one, in 1/10,000 dollar.
 pub(crate) fn is_through(side: Side, price: u64, row: &Row) -> bool
     ensures { result ≡ is_through side price row.now }
 {
     row.protected && is_beyond(side, price, row.price)
 }
 
-/// Whether a price is better than another one in 1/10,000 dollar: a higher bid, or a lower offer.
+/// Whether a price is better than another one, in 1/10,000 dollar: a higher bid, or a lower offer.
 fn is_beyond(side: Side, price: u64, own: Price) -> bool
     ensures { result ≡ better_price side own price }
 {

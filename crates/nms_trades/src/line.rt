@@ -1,4 +1,4 @@
-//! The lines of one execution as CSV: `specs/Lines`.
+//! Writing the lines of one execution as CSV: `specs/Lines`.
 ghost use Rattle.std.specs.Prelude.{◌≡◌, ◌++◌, ◌∷◌, ◌<◌, [], IfOk, OnOk, codes, get_or, true, if◌then◌else◌};
 ghost use Rattle.std.specs.Fmt.{decimal};
 ghost use Rattle.nms_lines.specs.Text.{later_fields, text_of};
@@ -20,7 +20,7 @@ use nms_lines::{end_record, name_of_part, push_number, push_price, push_text, wo
 use nms_quote::{Part, Roster, Side};
 use std::alloc::AllocError;
 
-/// Appends that a record is refused.
+/// Appends the line of a refused record.
 pub(crate) fn append_refusal(out: &mut Vec<u8>, refusal: &Refusal) -> Result<(), AllocError>
     ensures { OnOk result (out.new.items ≡ out.old.items ++ text_of (refusal_record refusal.now ∷ [])) }
 {
@@ -31,7 +31,7 @@ pub(crate) fn append_refusal(out: &mut Vec<u8>, refusal: &Refusal) -> Result<(),
     end_record(out)
 }
 
-/// Appends that an execution traded through nothing: it is clean, or its symbol had not been quoted.
+/// Appends that an execution traded through nothing, because it is clean or its symbol had not been quoted.
 pub(crate) fn append_quiet(
     out: &mut Vec<u8>,
     execution: &Execution,
@@ -53,7 +53,7 @@ pub(crate) fn append_other(out: &mut Vec<u8>, execution: &Execution) -> Result<(
     end_record(out)
 }
 
-/// Appends that an execution traded through, or on some versions of its window, and the rows of its version that are left.
+/// Appends that an execution traded through, perhaps only on some versions of its window, and the remaining rows of its version.
 pub(crate) fn append_through(
     out: &mut Vec<u8>,
     roster: &Roster,
@@ -83,7 +83,7 @@ fn append_found(
     end_record(out)
 }
 
-/// Appends how many rows are left, the greatest difference and the shares.
+/// Appends how many rows remain, the greatest difference and the shares.
 fn append_sums(out: &mut Vec<u8>, sums: &Sums) -> Result<(), AllocError>
     ensures { OnOk result (out.new.items ≡ out.old.items
         ++ (44 ∷ decimal sums.now.count ++ (44 ∷ fine_text sums.now.worst ++ 44 ∷ decimal sums.now.shares))) }
@@ -93,7 +93,7 @@ fn append_sums(out: &mut Vec<u8>, sums: &Sums) -> Result<(), AllocError>
     push_number(out, u64::from(sums.shares))
 }
 
-/// Appends how an execution stands, its name and its version.
+/// Appends the standing of an execution, its name and its version.
 fn append_head(
     out: &mut Vec<u8>,
     execution: &Execution,
@@ -139,7 +139,7 @@ fn cause_at(place: usize) -> Cause
     Cause::ALL[place]
 }
 
-/// Appends a cause if it applies, after a plus if one stands before it. Returns whether one stands there now.
+/// Appends a cause if it applies, after a plus if there is one before it. Returns whether any cause is there now.
 fn append_cause(
     out: &mut Vec<u8>,
     some: bool,
@@ -234,7 +234,7 @@ fn append_quotation(
     push_number(out, row.receipt)
 }
 
-/// The word of a standing.
+/// The word for a standing.
 pub(crate) fn word_of_standing(standing: Standing) -> &'static str
     ensures { result.now ≡ standing_word standing }
 {
@@ -247,7 +247,7 @@ pub(crate) fn word_of_standing(standing: Standing) -> &'static str
     }
 }
 
-/// Whether a row is of the participant that executed.
+/// Whether a row is that of the participant that executed.
 pub(crate) fn is_own(executed: &Option<Part>, part: Part) -> bool
     ensures { result ≡ is_own executed.now part }
 {
@@ -257,7 +257,7 @@ pub(crate) fn is_own(executed: &Option<Part>, part: Part) -> bool
     }
 }
 
-/// The marks of a row: `OWN` for one of the participant that executed, `FLICKER` for one that flickered.
+/// The marks of a row: `OWN` for the row of the participant that executed, `FLICKER` for one that flickered.
 fn marks_of(own: bool, flickers: bool) -> &'static str
     ensures { result.now ≡ marks_of own flickers }
 {

@@ -1,4 +1,4 @@
-//! Prices of up to six decimals: `specs/FinePrice`.
+//! Reading prices of up to six decimals: `specs/FinePrice`.
 ghost use Rattle.std.specs.Prelude.{◌≡◌, ◌<◌, ◌≤◌, ◌++◌, ◌∷◌, IfSome, OnOk, length};
 ghost use Rattle.nms_lines.specs.Numbers.{above_zero};
 ghost use Rattle.nms_units.specs.Digits.{point_in};
@@ -23,7 +23,7 @@ pub fn millionths_in(text: &[u8]) -> Option<u64>
     }
 }
 
-/// The same, zero among them.
+/// The same for a price that may be zero.
 fn number_in(text: &[u8]) -> Option<u64>
     ensures number { result ≡ fine_number text.now }
     ensures high { IfSome result (λ n. n ≤ MOST_MILLIONTHS) }
@@ -38,7 +38,7 @@ fn number_in(text: &[u8]) -> Option<u64>
     }
 }
 
-/// Where the first point stands.
+/// The place of the first point.
 fn point_in(text: &[u8]) -> Option<usize>
     ensures place { result ≡ point_in text.now }
     ensures within { IfSome result (λ point. point < length text.now) }
@@ -46,7 +46,7 @@ fn point_in(text: &[u8]) -> Option<usize>
     text.iter().position(|c| *c == b'.')
 }
 
-/// What 1 to 7 digits write as dollars, in 1/1,000,000 dollar.
+/// The price that 1 to 7 digits give as dollars, in 1/1,000,000 dollar.
 fn dollars_in(text: &[u8]) -> Option<u64>
     ensures number { result ≡ fine_dollars text.now }
     ensures high { IfSome result (λ n. n ≤ 9999999000000) }
@@ -55,7 +55,7 @@ fn dollars_in(text: &[u8]) -> Option<u64>
     Some(number * 1_000_000)
 }
 
-/// What 1 to 6 digits after the point write, in 1/1,000,000 dollar.
+/// The part of a price that 1 to 6 digits after the point give, in 1/1,000,000 dollar.
 fn decimals_in(text: &[u8]) -> Option<u64>
     ensures number { result ≡ fine_decimals text.now }
     ensures high { IfSome result (λ n. n ≤ 999999) }
@@ -80,7 +80,7 @@ pub fn push_millionths(out: &mut Vec<u8>, number: u64) -> Result<(), AllocError>
     ])
 }
 
-/// The digit of a number at the place of a unit.
+/// The digit of a number at the place of a unit, as a byte.
 fn digit(number: u64, unit: u64) -> u8
     requires { 0 < unit }
     ensures { result ≡ digit_at unit number }

@@ -11,29 +11,29 @@ use nms_quote::Side;
 /// How much an execution traded through, without the rows that self-help takes out.
 #[derive(Clone, Copy)]
 pub struct Sums {
-    /// How many rows are left.
+    /// How many rows remain.
     pub count: u64,
-    /// The greatest difference to the price, in 1/1,000,000 dollar.
+    /// The greatest difference from the price, in 1/1,000,000 dollar.
     pub worst: u64,
     /// The shares that the rows would have taken, at most those that were executed.
     pub shares: u32,
-    /// Their differences times those shares, in 1/1,000,000 dollar.
+    /// The sum of their differences times those shares, in 1/1,000,000 dollar.
     pub dollars: i128,
-    /// Whether self-help takes a row out.
+    /// Whether self-help takes any row out.
     pub helped: bool,
-    /// How many of the rows that are left flickered.
+    /// How many of the remaining rows flickered.
     pub flickers: u64,
 }
 
 impl Sums {
-    /// Whether rows are left, and all of them flickered.
+    /// Whether any rows remain, and all of them flickered.
     pub fn is_flickering(&self) -> bool
         ensures { result ≡ all_flicker self.now }
     {
         self.count > 0 && self.flickers == self.count
     }
 
-    /// Nothing.
+    /// The sums of no rows.
     pub(crate) fn none() -> Sums
         ensures { (execution : Execution) (shares : ℕ) → result ≡ sums_in execution shares [] }
     {
@@ -47,7 +47,7 @@ impl Sums {
         }
     }
 
-    /// With those of more rows.
+    /// The sums together with those of more rows.
     fn with(self, more: Sums) -> Sums
         requires count { self.count + more.count < 2 ^ 64 }
         requires flickers { self.flickers + more.flickers < 2 ^ 64 }
@@ -86,7 +86,7 @@ pub fn is_helped(execution: &Execution, row: &Row) -> bool
     execution.claims.self_help.has(row.part)
 }
 
-/// How much an execution traded through. The rows take its shares in their order.
+/// How much an execution traded through. Its shares are taken from the rows in their order.
 pub fn sums_of(execution: &Execution, finding: &Finding) -> Sums
     ensures { result ≡ sums_found execution.now finding.now }
 {
@@ -99,7 +99,7 @@ pub fn sums_of(execution: &Execution, finding: &Finding) -> Sums
     sums
 }
 
-/// How much an execution traded through one row, which takes at most n shares. Self-help may take the row out.
+/// How much an execution traded through one row, from which at most n shares are taken. Self-help may take the row out.
 pub(crate) fn sums_of_row(execution: &Execution, row: &Row, left: u32, flickers: bool) -> Sums
     ensures sums { result ≡ sums_in execution.now left ((row.now, flickers) ∷ []) }
     ensures cost { IsCost result }

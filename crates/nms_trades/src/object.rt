@@ -1,4 +1,4 @@
-//! The lines of one execution as JSON.
+//! Writing the lines of one execution as JSON.
 ghost use Rattle.std.specs.Prelude.{◌≡◌, true};
 ghost use Rattle.nms_show.specs.Plain.{is_own_plain, is_plain};
 ghost use Rattle.nms_show.specs.Safe.{IsSafe};
@@ -19,7 +19,7 @@ use nms_show::{Item, ShowFault};
 use std::alloc::{AllocError, Global};
 use std::io::Write;
 
-/// Writes that a record is refused.
+/// Writes the object of a refused record.
 pub(crate) fn write_refusal<W: Write>(
     alloc: Global,
     answers: &mut W,
@@ -39,7 +39,7 @@ pub(crate) fn write_refusal<W: Write>(
     )
 }
 
-/// Writes that an execution traded through nothing: it is clean, or its symbol had not been quoted.
+/// Writes that an execution traded through nothing, because it is clean or its symbol had not been quoted.
 #[tactic(auto, using(nms_show::proofs::Offered::no_part_added))]
 pub(crate) fn write_quiet<W: Write>(
     alloc: Global,
@@ -60,7 +60,7 @@ pub(crate) fn write_quiet<W: Write>(
     write_own(alloc, answers, roster, execution, finding, price, time)
 }
 
-/// Writes what an execution that traded through nothing says itself, with these texts.
+/// Writes the fields of an execution that traded through nothing, with these texts.
 fn write_own<'a, W: Write>(
     alloc: Global,
     answers: &mut W,
@@ -100,7 +100,8 @@ fn write_own<'a, W: Write>(
     )
 }
 
-/// Appends the price of an execution after a comma, and the digits of its time, if it has one. Returns where these begin.
+/// Appends the price of an execution after a comma, and the digits of its time, if it has one. Returns the place at which the
+/// digits begin.
 fn append_own(text: &mut Vec<u8>, execution: &Execution) -> Result<usize, AllocError> {
     push_millionths(text, execution.millionths)?;
     let cut = text.len();
@@ -129,7 +130,7 @@ pub(crate) fn write_other<W: Write>(
     )
 }
 
-/// Whether it bought or sold, as in its record; nothing if that does not say.
+/// The item for whether an execution bought or sold; nothing if its record does not say.
 fn deal_item(execution: &Execution) -> Item<'static>
     ensures { is_own_plain result ≡ true }
 {
@@ -140,7 +141,7 @@ fn deal_item(execution: &Execution) -> Item<'static>
     }
 }
 
-/// Where it was executed; nothing off an exchange.
+/// The item for the exchange of an execution; nothing off an exchange.
 fn part_item<'a>(roster: &'a Roster, execution: &Execution) -> Item<'a>
     ensures { is_own_plain result ≡ true }
 {
@@ -172,7 +173,7 @@ fn best_items(best: &Option<Row>) -> (Item<'static>, Item<'static>)
     }
 }
 
-/// Writes that an execution traded through, and the rows that are left.
+/// Writes that an execution traded through, and the remaining rows.
 pub(crate) fn write_through<W: Write>(
     alloc: Global,
     answers: &mut W,
@@ -201,7 +202,7 @@ pub(crate) fn write_through<W: Write>(
     write_rows(alloc, answers, text, roster, execution, finding)
 }
 
-/// Writes the rows that are left.
+/// Writes the remaining rows.
 fn write_rows<W: Write>(
     alloc: Global,
     answers: &mut W,
@@ -244,7 +245,7 @@ struct Texts<'a> {
     causes: &'a [u8],
 }
 
-/// Where the later ones of these texts begin.
+/// The places at which the later ones of these texts begin.
 #[derive(Clone, Copy)]
 struct Cuts {
     price: usize,
@@ -348,7 +349,7 @@ fn write_passed<W: Write>(
     )
 }
 
-/// Writes a row, which is so far from the price.
+/// Writes a row at this difference from the price.
 fn write_row<'a, W: Write>(
     alloc: Global,
     answers: &mut W,
@@ -383,7 +384,7 @@ fn write_row<'a, W: Write>(
     )
 }
 
-/// A text without the comma that stands before it.
+/// A text without the comma before it.
 pub(crate) fn behind_comma(text: &[u8]) -> &[u8] {
     text.strip_prefix(b",").unwrap_or(text)
 }

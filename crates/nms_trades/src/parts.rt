@@ -14,7 +14,7 @@ use nms_stream::{Replay, Tape};
 use std::alloc::{AllocError, Global};
 
 /// The protected prices of each participant in each symbol, `MOST_ROWS` places a symbol, in each version of the changes. One
-/// board moves along them once.
+/// board passes through them once.
 pub(crate) fn parts_of(alloc: Global, tape: &Tape<'_>) -> Result<Vec<Track>, BoardFault>
     ensures { IfOk result (λ tracks. ArePartsOf (sizes_in tape.now) tape.now.changes.items tracks.items) }
 {
@@ -30,7 +30,7 @@ pub(crate) fn parts_of(alloc: Global, tape: &Tape<'_>) -> Result<Vec<Track>, Boa
     Ok(tracks)
 }
 
-/// Notes the prices after a change, of the participants and symbols that it touches.
+/// Notes the prices after a change, for the participants and symbols that it touches.
 fn note_change(board: &Boards, change: &Change, tracks: &mut Vec<Track>) -> Result<(), AllocError>
     requires held { holds board.now.sizes change.now ≡ true }
     requires count { length tracks.old.items ≡ MOST_ROWS * length board.now.sizes.lots }
@@ -43,7 +43,7 @@ fn note_change(board: &Boards, change: &Change, tracks: &mut Vec<Track>) -> Resu
         → touches sym part change.now ≡ false
         → OnOk result (slice_get tracks.new.items (place_of part sym) ≡ slice_get tracks.old.items (place_of part sym)) }
 {
-    // A board has at most `MOST_ROWS` participants.
+    // The prover has to see that a board has at most `MOST_ROWS` participants.
     board.stands_for_a_tape();
     match *change {
         Change::Quote { part, sym, .. } => note_part(board, part, sym, tracks),
@@ -60,7 +60,7 @@ fn note_syms(board: &Boards, part: Part, tracks: &mut Vec<Track>) -> Result<(), 
     ensures { OnOk result (AreNoted (λ sym. place_of part sym) board.now.applied (λ sym. part_held board.now sym part)
         (length board.now.sizes.lots) tracks.old.items tracks.new.items) }
 {
-    // A board has at most `MOST_SYMBOLS` symbols.
+    // The prover has to see that a board has at most `MOST_SYMBOLS` symbols.
     board.stands_for_a_tape();
     for place in 0..tracks.len() / MOST_ROWS {
         note_part(board, part, Sym::new(place as u16).unwrap(), tracks)?;
@@ -96,7 +96,7 @@ fn note_part(
         (slice_get tracks.old.items (place_of p s)) (slice_get tracks.new.items (place_of p s))) }
     ensures others { (other : ℕ) → other ≢ place_of part sym → slice_get tracks.new.items other ≡ slice_get tracks.old.items other }
 {
-    // A board has at most `MOST_ROWS` participants and `MOST_SYMBOLS` symbols.
+    // The prover has to see that a board has at most `MOST_ROWS` participants and `MOST_SYMBOLS` symbols.
     board.stands_for_a_tape();
     let limits = Limits {
         bid: protected_price(board.row(Side::Bid, part, sym)),

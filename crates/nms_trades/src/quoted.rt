@@ -1,4 +1,4 @@
-//! Which executions are of a symbol that nobody had quoted yet, and which another shard judges: `specs/Quoted`.
+//! Which executions are in a symbol that no participant had quoted yet, and which another shard judges: `specs/Quoted`.
 ghost use Rattle.std.specs.Prelude.{◌≡◌, ◌≢◌, ℕ, All, IfOk, OnOk, Some, length, replicate, slice_get, true};
 ghost use Rattle.nms_stream.specs.Tapes.{sizes_in};
 ghost use Rattle.nms_trades.specs.Found.{IsStanding, IsWeighed};
@@ -12,7 +12,7 @@ use nms_quote::Change;
 use nms_stream::Tape;
 use std::alloc::{AllocError, Global};
 
-/// Sets the answer of each finding. The changes are gone over once.
+/// Sets the answer of each finding. The changes are read once.
 pub(crate) fn answer_all(
     alloc: Global,
     tape: &Tape<'_>,
@@ -40,7 +40,7 @@ fn answer_one(tape: &Tape<'_>, firsts: &[u64], execution: &Execution, answer: &m
     requires found { IsAnswered (IsWeighed (sizes_in tape.now) tape.now.changes.items) execution.now (Some answer.old) }
     ensures { IsAnswered (IsStanding (sizes_in tape.now) tape.now.changes.items) execution.now (Some answer.new) }
 {
-    // The clauses alone speak of the tape.
+    // The parameter is there because only the clauses speak of the tape.
     let _ = tape;
     let place = usize::from(execution.sym.get());
     let unquoted = execution.first <= firsts[place];
@@ -49,7 +49,7 @@ fn answer_one(tape: &Tape<'_>, firsts: &[u64], execution: &Execution, answer: &m
     }
 }
 
-/// Of each of a number of symbols, by its place, how many changes come before its first quotation: all of them if it has none.
+/// For each symbol, by its place, how many changes come before its first quotation: all of them if it has none.
 fn firsts_of(alloc: Global, syms: usize, changes: &[Change]) -> Result<Vec<u64>, AllocError>
     ensures count { IfOk result (λ firsts. length firsts.items ≡ syms) }
     ensures firsts { IfOk result (λ firsts. AreFirsts changes.now (length changes.now) firsts.items) }
@@ -63,7 +63,7 @@ fn firsts_of(alloc: Global, syms: usize, changes: &[Change]) -> Result<Vec<u64>,
     Ok(firsts)
 }
 
-/// One number several times.
+/// A list of one number several times.
 fn numbers(alloc: Global, count: usize, number: u64) -> Result<Vec<u64>, AllocError>
     ensures { IfOk result (λ numbers. numbers.items ≡ replicate count number) }
 {
@@ -74,7 +74,7 @@ fn numbers(alloc: Global, count: usize, number: u64) -> Result<Vec<u64>, AllocEr
     Ok(numbers)
 }
 
-/// Notes the change at a place, if it is a quotation: for its symbol, unless an earlier one is noted.
+/// Notes the change at a place for its symbol, if it is a quotation and no earlier one is noted.
 fn note_quotation(firsts: &mut Vec<u64>, change: &Change, place: u64)
     ensures count { length firsts.new.items ≡ length firsts.old.items }
     ensures each { (sym : ℕ) → IsNotedFirst (is_quotation sym change.now) place (slice_get firsts.old.items sym)

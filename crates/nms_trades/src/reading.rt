@@ -1,4 +1,4 @@
-//! What a record of an execution says: `specs/Reading`.
+//! Reading a record of an execution: `specs/Reading`.
 ghost use Rattle.std.specs.Prelude.{◌≡◌, ◌<◌, IfOk, IfSome, length, true};
 ghost use Rattle.std.specs.List.{list_all};
 ghost use Rattle.csv.specs.Records.{fields_of};
@@ -14,7 +14,7 @@ use arrayvec::ArrayVec;
 use nms_lines::{ByteRecord, field_at, some_shares_of};
 use nms_quote::{Part, Roster};
 
-/// What a record says, or the first fault of it. The clock finds its version.
+/// The execution that a record gives, or the record's first fault. The clock finds its version.
 pub(crate) fn read_execution(
     row: &ByteRecord,
     roster: &Roster,
@@ -76,14 +76,14 @@ pub fn is_name(text: &[u8]) -> bool
     !text.is_empty() && text.len() <= MOST_NAME && are_name_bytes(text)
 }
 
-/// Whether each byte may stand in a name.
+/// Whether each byte is allowed in a name.
 fn are_name_bytes(text: &[u8]) -> bool
     ensures { result ≡ list_all is_name_byte text.now }
 {
     text.iter().all(|byte| is_name_byte(*byte))
 }
 
-/// A name, copied.
+/// A copy of a name.
 fn name_of(text: &[u8]) -> ArrayVec<u8, MOST_NAME>
     requires { is_name text.now ≡ true }
     ensures { result.items ≡ text.now }
@@ -93,14 +93,14 @@ fn name_of(text: &[u8]) -> ArrayVec<u8, MOST_NAME>
     name
 }
 
-/// Whether a byte may stand in a name.
+/// Whether a byte is allowed in a name.
 fn is_name_byte(byte: u8) -> bool
     ensures { result ≡ is_name_byte byte }
 {
     byte.is_ascii_alphanumeric() || byte == b'.' || byte == b'-' || byte == b'_'
 }
 
-/// Whether it bought or sold.
+/// Whether an execution bought or sold, as a text says.
 fn deal_in(text: &[u8]) -> Result<Option<Deal>, TradeFault>
     ensures { result ≡ deal_in text.now }
 {
@@ -112,7 +112,7 @@ fn deal_in(text: &[u8]) -> Result<Option<Deal>, TradeFault>
     }
 }
 
-/// The participant that a text names; an empty one names none.
+/// The participant that a text names; none if it is empty.
 fn part_in(text: &[u8], roster: &Roster) -> Result<Option<Part>, TradeFault>
     ensures part { result ≡ part_of roster.now text.now }
     ensures there { IfOk result (λ part. IfSome part (λ place. place < length roster.now.parts)) }

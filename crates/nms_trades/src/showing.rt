@@ -1,4 +1,4 @@
-//! Objects that are safe to show if the program's own texts in them pass a test: they are printable ASCII.
+//! Objects that are safe to show if the program's own texts in them are printable ASCII, which is tested.
 ghost use Rattle.std.specs.Prelude.{◌≡◌, true};
 ghost use Rattle.std.specs.List.{list_all};
 ghost use Rattle.nms_show.specs.Plain.{is_plain_member};

@@ -7,14 +7,14 @@ use nms_times::{TimeOfDay, TimesFault};
 /// The part of a day that a shard has of a symbol that is cut by time.
 #[derive(Clone, Copy)]
 pub(crate) struct Stretch {
-    /// The time of the first change after the cut that it begins at; `None` if it has the symbol from its first change on.
+    /// The time of the first change after the cut at which the shard begins; `None` if it has the symbol from its first change on.
     pub(crate) from: Option<TimeOfDay>,
-    /// The time of the first change after the cut that it ends at; `None` if it has the symbol to its last change.
+    /// The time of the first change after the cut at which the shard ends; `None` if it has the symbol to its last change.
     pub(crate) until: Option<TimeOfDay>,
 }
 
 impl Stretch {
-    /// The whole day: a symbol that is not cut.
+    /// The whole day, for a symbol that is not cut.
     pub(crate) fn whole() -> Stretch
         ensures { result ≡ whole_day }
     {
@@ -24,7 +24,7 @@ impl Stretch {
         }
     }
 
-    /// Whether the shard judges an execution of a time. With `before` the changes of the time itself are not in force.
+    /// Whether the shard judges an execution at a time. If `before` is set, the changes of the time itself are not in force.
     pub(crate) fn is_own(self, before: bool, time: TimeOfDay) -> bool
         ensures { result ≡ is_own before self time }
     {
@@ -32,7 +32,7 @@ impl Stretch {
     }
 }
 
-/// Whether a time is past the cut that a shard begins at.
+/// Whether a time is past the cut at which a shard begins.
 fn has_begun(before: bool, cut: Option<TimeOfDay>, time: TimeOfDay) -> bool
     ensures { result ≡ has_begun before cut time }
 {
@@ -42,7 +42,7 @@ fn has_begun(before: bool, cut: Option<TimeOfDay>, time: TimeOfDay) -> bool
     }
 }
 
-/// Whether a time is past the cut that a shard ends at.
+/// Whether a time is past the cut at which a shard ends.
 fn has_ended(before: bool, cut: Option<TimeOfDay>, time: TimeOfDay) -> bool
     ensures { result ≡ has_ended before cut time }
 {
@@ -63,8 +63,8 @@ fn is_past(before: bool, cut: TimeOfDay, time: TimeOfDay) -> bool
     }
 }
 
-/// Reads the cuts of a symbol in the text of symbols into its stretch. A shard that is cut has a line more for each of its cuts, in
-/// which ` from ` or ` until ` and the time of the cut follow the symbol's name. The last of several counts.
+/// Reads the cuts of a symbol in the text of symbols into its stretch. A shard that is cut has one more line for each of its
+/// cuts. In it ` from ` or ` until ` and the time of the cut follow the symbol's name. The last of several lines counts.
 ///
 /// `NotSymbol` has the first such line that has no time there.
 pub(crate) fn read_stretch(
@@ -84,7 +84,7 @@ pub(crate) fn read_stretch(
     Ok(())
 }
 
-/// Reads the cut that a line of a symbol says after the name, if it says one.
+/// Reads the cut that a line of a symbol has after the name, if it has one.
 fn read_cut(stretch: &mut Stretch, rest: &[u8], line: u64) -> Result<(), TimesFault> {
     if let Some(time) = rest.strip_prefix(b" from ") {
         stretch.from = Some(cut_in(time, line)?);
@@ -94,7 +94,7 @@ fn read_cut(stretch: &mut Stretch, rest: &[u8], line: u64) -> Result<(), TimesFa
     Ok(())
 }
 
-/// The time that a text begins with, before a comma.
+/// The time at the beginning of a text, before a comma.
 fn cut_in(text: &[u8], line: u64) -> Result<TimeOfDay, TimesFault> {
     let mut fields = text.split(|byte| *byte == b',');
     let digits = fields.next().unwrap_or(b"");

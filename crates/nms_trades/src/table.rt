@@ -1,4 +1,4 @@
-//! The counts and sums of all executions, as tables.
+//! Writing the counts and sums of all executions, as tables.
 ghost use Rattle.std.specs.Prelude.{◌≡◌, ◌+◌, [], IfErr, IfOk, OnSome, false, filter, if◌then◌else◌, length, true};
 ghost use Rattle.std.specs.List.{list_all};
 ghost use Rattle.nms_show.specs.Plain.{is_own_plain, is_plain};
@@ -12,7 +12,8 @@ use crate::cause::{CAUSES, Cause};
 use crate::execution::Execution;
 use crate::execution_file::Records;
 use crate::finding::Finding;
-use crate::tally::{Amount, Count, HALF_HOURS, Tally};
+use crate::quality_table::{write_quality_head, write_worth};
+use crate::tally::{Amount, Count, HALF_HOURS, Places, Tally};
 use crate::trades_fault::TradesFault;
 use nms_lines::{name_of_part, name_of_sym};
 use nms_quote::{Part, Roster, Sym};
@@ -22,17 +23,17 @@ use std::alloc::{AllocError, Global};
 use std::io::Write;
 
 /// How many columns a table has.
-const COLUMNS: usize = 10;
+pub(crate) const COLUMNS: usize = 10;
 
 /// The least number of characters of each column.
 const WIDTHS: [usize; COLUMNS] = [18, 10, 8, 8, 8, 8, 8, 12, 20, 16];
 
-/// How many symbols the table has at most: those with the most shares through.
+/// The most symbols of a table, which shows those with the most shares.
 const MOST_SYMBOLS_SHOWN: usize = 50;
 
 /// Writes the counts and sums of all executions. What is written is safe to show on a terminal.
 ///
-/// `TooLong` comes only of sums that no number holds, and leaves nothing written.
+/// `TooLong` comes only if no number holds a sum, and then nothing is written.
 #[tactic(auto, using(nms_show::proofs::Offered::no_part_added))]
 pub fn write_table<W: Write>(
     alloc: Global,
@@ -72,17 +73,26 @@ fn print_tally<W: Write>(
     out.pass_on(answers)
 }
 
-/// The records that are not among the executions judged.
+/// The subject of a table.
 #[derive(Clone, Copy)]
-struct Aside {
-    /// Those that are refused.
-    refused: u64,
-    /// Those that other shards judge.
-    others: u64,
+pub(crate) enum About {
+    /// The table is about what executions traded through.
+    Through,
+    /// The table is about how well executions were done.
+    Quality,
 }
 
-/// The counts of executions, each with what is found of it. Those of all are the lengths of the lists.
-fn tally_of(
+/// The records that are not among the executions judged.
+#[derive(Clone, Copy)]
+pub(crate) struct Aside {
+    /// How many are refused.
+    pub(crate) refused: u64,
+    /// How many other shards judge.
+    pub(crate) others: u64,
+}
+
+/// The counts of executions, each with what was found about it. The counts of all are the lengths of the lists.
+pub(crate) fn tally_of(
     alloc: Global,
     roster: &Roster,
     executions: &[Execution],
@@ -109,7 +119,7 @@ fn tally_of(
     Ok(tally)
 }
 
-/// Counts an execution, if there is a finding of it. `None` comes only of sums that no number holds.
+/// Counts an execution, if there is a finding about it. `None` comes only if no number holds a sum.
 fn count_one(tally: &mut Tally, execution: &Execution, answer: &Option<Finding>) -> Option<()>
     ensures others { OnSome result (tally.new.others ≡ tally.old.others + (if stands is_other answer.now then 1 else 0)) }
     ensures executions { OnSome result (tally.new.all.executions
@@ -140,30 +150,36 @@ fn write_tally(
     };
     write_all(&tally.all, aside, out)?;
     write_causes(tally, out)?;
-    write_places(roster, tally, out)
+    write_places(roster, &tally.places, out)
 }
 
 /// Writes the counts by participant, by symbol and by half hour.
-fn write_places(roster: &Roster, tally: &Tally, out: &mut SafeText) -> Result<(), AllocError> {
-    write_head("executed by", out)?;
-    write_parts(roster, "executed", &tally.places.executed, out)?;
-    write_head("traded through", out)?;
-    write_parts(roster, "passed", &tally.places.passed, out)?;
-    write_symbols(roster, &tally.places.syms, out)?;
-    write_half_hours(&tally.places.half_hours, out)
+fn write_places(roster: &Roster, places: &Places, out: &mut SafeText) -> Result<(), AllocError> {
+    write_head(About::Through, "executed by", out)?;
+    write_parts(About::Through, roster, "executed", &places.executed, out)?;
+    write_head(About::Through, "traded through", out)?;
+    write_parts(About::Through, roster, "passed", &places.passed, out)?;
+    write_symbols(About::Through, roster, &places.syms, out)?;
+    write_half_hours(About::Through, &places.half_hours, out)
 }
 
 /// Writes the counts of causes.
 fn write_causes(tally: &Tally, out: &mut SafeText) -> Result<(), AllocError> {
-    write_head("cause", out)?;
+    write_head(About::Through, "cause", out)?;
     for place in 0..CAUSES {
         let name = Item::Text(Cause::ALL[place].word());
-        write_count("cause", name, &tally.places.causes[place], out)?;
+        write_count(
+            About::Through,
+            "cause",
+            name,
+            &tally.places.causes[place],
+            out,
+        )?;
     }
     Ok(())
 }
 
-/// Writes the counts of all.
+/// Writes the counts of all executions.
 fn write_all(all: &Count, aside: Aside, out: &mut SafeText) -> Result<(), AllocError> {
     if out.is_json() {
         return write_totals(all, aside, out);
@@ -188,7 +204,7 @@ fn write_all(all: &Count, aside: Aside, out: &mut SafeText) -> Result<(), AllocE
     write_amount("perhaps: ", &all.perhaps, all.executions, out)
 }
 
-/// Writes the counts of all as an object.
+/// Writes the counts of all executions as an object.
 fn write_totals(all: &Count, aside: Aside, out: &mut SafeText) -> Result<(), AllocError> {
     out.object(&[
         ("what", Item::Text("totals")),
@@ -211,7 +227,7 @@ fn write_totals(all: &Count, aside: Aside, out: &mut SafeText) -> Result<(), All
     ])
 }
 
-/// Writes, after a word, how many of these executions there are among all, and how much they traded through.
+/// Writes, after a word, how many executions an amount has, and how much they traded through.
 fn write_amount(
     word: &str,
     amount: &Amount,
@@ -236,14 +252,14 @@ fn write_amount(
     ])
 }
 
-/// How many executions are clean: those that are none of the others.
+/// How many executions are clean, because they are none of the others.
 fn clean_of(all: &Count) -> u64 {
     let rest = all.executions - all.through.executions.min(all.executions);
     let rest = rest - all.perhaps.executions.min(rest);
     rest - all.unquoted.min(rest)
 }
 
-/// How many of 10,000 executions these are, rounded down.
+/// How many of 10,000 executions an amount has, rounded down.
 fn rate_of(amount: &Amount, executions: u64) -> Item<'static>
     ensures { own_text result ≡ [] }
 {
@@ -263,14 +279,24 @@ fn money_of<'a>(millionths: i128) -> Item<'a>
     }
 }
 
-/// Writes the head of a table; of objects there is none.
-fn write_head(name: &str, out: &mut SafeText) -> Result<(), AllocError>
+/// Writes the head of a table. Objects have no head.
+pub(crate) fn write_head(about: About, name: &str, out: &mut SafeText) -> Result<(), AllocError>
     requires { is_plain name.now ≡ true }
 {
     if out.is_json() {
         return Ok(());
     }
     out.line(&[])?;
+    match about {
+        About::Through => write_through_head(name, out),
+        About::Quality => write_quality_head(name, out),
+    }
+}
+
+/// Writes the head of a table of what was traded through.
+fn write_through_head(name: &str, out: &mut SafeText) -> Result<(), AllocError>
+    requires { is_plain name.now ≡ true }
+{
     let items = [
         Item::Strong(name),
         Item::Strong("executions"),
@@ -283,11 +309,28 @@ fn write_head(name: &str, out: &mut SafeText) -> Result<(), AllocError>
         Item::Strong("dollars"),
         Item::Strong("worst"),
     ];
-    write_row(&items, out)
+    write_row(&items, &WIDTHS, out)
 }
 
-/// Writes a count, if there is anything in it.
-fn write_count<'a>(
+/// Writes a count, if it is not empty.
+pub(crate) fn write_count<'a>(
+    about: About,
+    what: &'a str,
+    name: Item<'a>,
+    count: &Count,
+    out: &mut SafeText,
+) -> Result<(), AllocError>
+    requires what { is_plain what.now ≡ true }
+    requires name { is_own_plain name ≡ true }
+{
+    match about {
+        About::Through => write_through(what, name, count, out),
+        About::Quality => write_worth(what, name, count, out),
+    }
+}
+
+/// Writes what the executions of a count traded through, if it is not empty.
+fn write_through<'a>(
     what: &'a str,
     name: Item<'a>,
     count: &Count,
@@ -352,10 +395,10 @@ fn write_count_row(name: Item<'_>, count: &Count, out: &mut SafeText) -> Result<
         money_of(count.through.dollars),
         money_of(i128::from(count.through.worst)),
     ];
-    write_row(&items, out)
+    write_row(&items, &WIDTHS, out)
 }
 
-/// Writes the sums of those that perhaps traded through as a row below that of their count, if there are any.
+/// Writes the sums of executions that perhaps traded through, as a row below that of their count, if there are any.
 fn write_perhaps_row(amount: &Amount, out: &mut SafeText) -> Result<(), AllocError> {
     if amount.executions == 0 && amount.rows == 0 {
         return Ok(());
@@ -372,11 +415,15 @@ fn write_perhaps_row(amount: &Amount, out: &mut SafeText) -> Result<(), AllocErr
         money_of(amount.dollars),
         money_of(i128::from(amount.worst)),
     ];
-    write_row(&items, out)
+    write_row(&items, &WIDTHS, out)
 }
 
-/// Writes a row of a table: its name at the left end of a column, and each other item at the right end of one.
-fn write_row(items: &[Item<'_>; COLUMNS], out: &mut SafeText) -> Result<(), AllocError>
+/// Writes a row of a table, in columns of these widths. Its name is at the left end of one, and each other item at the right end.
+pub(crate) fn write_row(
+    items: &[Item<'_>; COLUMNS],
+    widths: &[usize; COLUMNS],
+    out: &mut SafeText,
+) -> Result<(), AllocError>
     requires { list_all is_own_plain items.now ≡ true }
 {
     let mut columns = [Column {
@@ -387,15 +434,16 @@ fn write_row(items: &[Item<'_>; COLUMNS], out: &mut SafeText) -> Result<(), Allo
     for place in 0..COLUMNS {
         columns[place] = Column {
             item: items[place],
-            width: WIDTHS[place],
+            width: widths[place],
             right: place > 0,
         };
     }
     out.row(&columns)
 }
 
-/// Writes the counts of participants; the one after the last is off an exchange.
-fn write_parts(
+/// Writes the counts of participants. The one after the last is for executions off an exchange.
+pub(crate) fn write_parts(
+    about: About,
     roster: &Roster,
     what: &str,
     counts: &[Count],
@@ -405,12 +453,12 @@ fn write_parts(
 {
     for place in 0..counts.len() {
         let name = part_item(roster, place);
-        write_count(what, name, &counts[place], out)?;
+        write_count(about, what, name, &counts[place], out)?;
     }
     Ok(())
 }
 
-/// The name of the participant at a place, which is of the setup; of the place after the last, that there is none.
+/// The name of the participant at a place; `(none)` for the place after the last.
 fn part_item(roster: &Roster, place: usize) -> Item<'_>
     ensures { is_own_plain result ≡ true }
 {
@@ -423,44 +471,63 @@ fn part_item(roster: &Roster, place: usize) -> Item<'_>
     }
 }
 
-/// Writes the counts of symbols: in a table the 50 with the most shares through, as objects all.
-fn write_symbols(roster: &Roster, counts: &[Count], out: &mut SafeText) -> Result<(), AllocError> {
-    write_head("symbol", out)?;
-    let order = by_shares(out.alloc(), counts)?;
+/// Writes the counts of symbols. A table has the 50 with the most shares, and objects are written for all.
+pub(crate) fn write_symbols(
+    about: About,
+    roster: &Roster,
+    counts: &[Count],
+    out: &mut SafeText,
+) -> Result<(), AllocError> {
+    write_head(about, "symbol", out)?;
+    let order = match about {
+        About::Through => by_shares(out.alloc(), counts)?,
+        About::Quality => by_size(out.alloc(), counts)?,
+    };
     let shown = if out.is_json() {
         order.len()
     } else {
         MOST_SYMBOLS_SHOWN
     };
-    write_shown(roster, counts, &order, shown, out)
+    write_shown(about, roster, counts, &order[..shown.min(order.len())], out)
 }
 
-/// Writes the counts of the first symbols in an order of their places, at most n.
+/// Writes the counts of symbols, in an order of their places.
 fn write_shown(
+    about: About,
     roster: &Roster,
     counts: &[Count],
     order: &[usize],
-    shown: usize,
     out: &mut SafeText,
 ) -> Result<(), AllocError> {
-    for at in 0..shown.min(order.len()) {
+    for at in 0..order.len() {
         let place = order[at];
         if place < counts.len() {
-            write_count("symbol", sym_item(roster, place), &counts[place], out)?;
+            write_count(
+                about,
+                "symbol",
+                sym_item(roster, place),
+                &counts[place],
+                out,
+            )?;
         }
     }
     Ok(())
 }
 
 /// Writes the counts of half hours of the day, if any execution has a time.
-fn write_half_hours(counts: &[Count; HALF_HOURS], out: &mut SafeText) -> Result<(), AllocError> {
+pub(crate) fn write_half_hours(
+    about: About,
+    counts: &[Count; HALF_HOURS],
+    out: &mut SafeText,
+) -> Result<(), AllocError> {
     if counts.iter().all(|count| count.executions == 0) {
         return Ok(());
     }
-    write_head("half hour", out)?;
+    write_head(about, "half hour", out)?;
     for place in 0..HALF_HOURS {
         let name = name_of_half_hour(place as u8);
         write_count(
+            about,
             "half_hour",
             Item::Bytes(name.as_slice()),
             &counts[place],
@@ -470,19 +537,17 @@ fn write_half_hours(counts: &[Count; HALF_HOURS], out: &mut SafeText) -> Result<
     Ok(())
 }
 
-/// When a half hour begins, as `09:30`.
+/// The beginning of a half hour, as `09:30`.
 fn name_of_half_hour(place: u8) -> [u8; 5] {
     let hour = place / 2;
     let half = if place % 2 == 0 { b'0' } else { b'3' };
     [b'0' + hour / 10, b'0' + hour % 10, b':', half, b'0']
 }
 
-/// The places of counts, those with the most shares through first; of as many, those with the most shares perhaps through.
+/// The places of counts, those with the most shares through first. If these are equal, those with the most shares perhaps
+/// through come first.
 fn by_shares(alloc: Global, counts: &[Count]) -> Result<Vec<usize>, AllocError> {
-    let mut order = Vec::with_capacity(alloc, counts.len())?;
-    for place in 0..counts.len() {
-        order.push(place)?;
-    }
+    let mut order = places_of(alloc, counts)?;
     order.sort_by_key(|place| u64::MAX
         - counts.get(*place).map_or(0, |count| count.perhaps.shares))?;
     order.sort_by_key(|place| u64::MAX
@@ -490,7 +555,23 @@ fn by_shares(alloc: Global, counts: &[Count]) -> Result<Vec<usize>, AllocError> 
     Ok(order)
 }
 
-/// The name of the symbol at a place, which is of the setup.
+/// The places of counts, those with the most shares executed first.
+fn by_size(alloc: Global, counts: &[Count]) -> Result<Vec<usize>, AllocError> {
+    let mut order = places_of(alloc, counts)?;
+    order.sort_by_key(|place| u64::MAX - counts.get(*place).map_or(0, |count| count.worth.shares))?;
+    Ok(order)
+}
+
+/// The places of counts, in order.
+fn places_of(alloc: Global, counts: &[Count]) -> Result<Vec<usize>, AllocError> {
+    let mut order = Vec::with_capacity(alloc, counts.len())?;
+    for place in 0..counts.len() {
+        order.push(place)?;
+    }
+    Ok(order)
+}
+
+/// The name of the symbol at a place.
 fn sym_item(roster: &Roster, place: usize) -> Item<'_>
     ensures { own_text result ≡ [] }
 {

@@ -1,4 +1,5 @@
-//! How many executions traded through, and how much: of all, by cause, by participant, by symbol and by half hour.
+//! How many executions traded through, how much, and how well they were done. The counts are of all, by cause, by participant,
+//! by symbol, by size and by half hour.
 ghost use Rattle.std.specs.Prelude.{◌≡◌, ◌<◌, ◌+◌, IfOk, IfSome, OnSome};
 ghost use Rattle.nms_trades.specs.Counts.{is_judged, is_noquote, is_other, is_perhaps, is_through, stands_once};
 
@@ -7,34 +8,35 @@ use crate::execution::Execution;
 use crate::finding::Finding;
 use crate::money_through::{Sums, sums_of, sums_of_row};
 use crate::standing::Standing;
+use crate::worth::{SIZES, Worth, size_class};
 use nms_times::TimeOfDay;
 use std::alloc::{AllocError, Global};
 
-/// The half hours of a day.
+/// How many half hours a day has.
 pub(crate) const HALF_HOURS: usize = 48;
 
-/// The nanoseconds of one.
+/// Nanoseconds in half an hour.
 const HALF_HOUR: u64 = 1_800_000_000_000;
 
 /// How much some executions traded through.
 #[derive(Clone, Copy)]
 pub(crate) struct Amount {
-    /// How many executions they are.
+    /// The number of executions.
     pub(crate) executions: u64,
-    /// Those of them with rows left, to which no cause but self-help applies.
+    /// How many of them have rows left, and no cause but self-help applies to them.
     pub(crate) open: u64,
-    /// Rows that were traded through.
+    /// The number of rows that were traded through.
     pub(crate) rows: u64,
-    /// Shares through.
+    /// The number of shares that were traded through.
     pub(crate) shares: u64,
-    /// Dollars through, in 1/1,000,000.
+    /// The dollars that were traded through, in 1/1,000,000.
     pub(crate) dollars: i128,
     /// The greatest difference, in 1/1,000,000 dollar.
     pub(crate) worst: u64,
 }
 
 impl Amount {
-    /// Nothing.
+    /// The amount of no execution.
     fn none() -> Amount
         ensures { result.executions ≡ 0 }
     {
@@ -48,7 +50,7 @@ impl Amount {
         }
     }
 
-    /// With one more execution.
+    /// The amount with one more execution.
     fn with(self, is_open: bool, sums: &Sums) -> Option<Amount>
         ensures { IfSome result (λ amount. amount.executions ≡ self.executions + 1) }
     {
@@ -60,7 +62,7 @@ impl Amount {
         amount.with_sums(sums)
     }
 
-    /// With more rows.
+    /// The amount with more rows.
     fn with_sums(self, sums: &Sums) -> Option<Amount>
         ensures { IfSome result (λ amount. amount.executions ≡ self.executions) }
     {
@@ -73,21 +75,34 @@ impl Amount {
     }
 }
 
-/// How many executions there were, and how much they traded through.
+/// What one execution adds to a count.
+#[derive(Clone, Copy)]
+struct One {
+    /// Whether the execution has rows left, and no cause but self-help applies.
+    is_open: bool,
+    /// How much the execution traded through.
+    sums: Sums,
+    /// How well the execution was done.
+    worth: Worth,
+}
+
+/// How many executions there were, how much they traded through, and how well they were done.
 #[derive(Clone, Copy)]
 pub(crate) struct Count {
-    /// Executions.
+    /// The number of executions.
     pub(crate) executions: u64,
-    /// Those whose symbol had not been quoted.
+    /// The number of those whose symbol had not been quoted.
     pub(crate) unquoted: u64,
-    /// Those that traded through on some versions of their windows, and not on others.
+    /// The amount of those that traded through on some versions of their windows, and not on others.
     pub(crate) perhaps: Amount,
-    /// Those that traded through.
+    /// The amount of those that traded through.
     pub(crate) through: Amount,
+    /// How well all of the executions were done.
+    pub(crate) worth: Worth,
 }
 
 impl Count {
-    /// Nothing.
+    /// A count of no executions.
     pub(crate) fn none() -> Count
         ensures executions { result.executions ≡ 0 }
         ensures unquoted { result.unquoted ≡ 0 }
@@ -99,16 +114,17 @@ impl Count {
             unquoted: 0,
             perhaps: Amount::none(),
             through: Amount::none(),
+            worth: Worth::none(),
         }
     }
 
-    /// Whether there is nothing in it.
+    /// Whether the count is empty.
     pub(crate) fn is_empty(&self) -> bool {
         self.executions == 0 && self.through.rows == 0 && self.perhaps.rows == 0
     }
 
-    /// With one more execution that is judged here.
-    fn with(self, finding: &Finding, is_open: bool, sums: &Sums) -> Option<Count>
+    /// The count with one more execution that is judged here.
+    fn with(self, finding: &Finding, one: &One) -> Option<Count>
         ensures executions { IfSome result (λ count. count.executions ≡ self.executions + 1) }
         ensures unquoted { IfSome result (λ count. count.unquoted ≡ self.unquoted + stands_once is_noquote finding.now) }
         ensures perhaps { IfSome result (λ count. count.perhaps.executions
@@ -118,16 +134,17 @@ impl Count {
     {
         let mut count = self;
         count.executions = count.executions.checked_add(1)?;
+        count.worth = count.worth.with(&one.worth)?;
         match finding.standing {
             Standing::Clean | Standing::Other => {}
             Standing::Unquoted => count.unquoted = count.unquoted.checked_add(1)?,
-            Standing::Perhaps => count.perhaps = count.perhaps.with(is_open, sums)?,
-            Standing::Through => count.through = count.through.with(is_open, sums)?,
+            Standing::Perhaps => count.perhaps = count.perhaps.with(one.is_open, &one.sums)?,
+            Standing::Through => count.through = count.through.with(one.is_open, &one.sums)?,
         }
         Some(count)
     }
 
-    /// With rows of an execution that stands so.
+    /// The count with rows of an execution with this standing.
     fn with_rows(self, standing: Standing, sums: &Sums) -> Option<Count> {
         let mut count = self;
         match standing {
@@ -142,7 +159,7 @@ impl Count {
 /// The counts of all executions.
 #[derive(Drop)]
 pub(crate) struct Tally {
-    /// Those that other shards judge. They are in no other count.
+    /// The number of those that other shards judge. They are in no other count.
     pub(crate) others: u64,
     pub(crate) all: Count,
     pub(crate) places: Places,
@@ -151,20 +168,22 @@ pub(crate) struct Tally {
 /// The same counts by what executions have in common.
 #[derive(Drop)]
 pub(crate) struct Places {
-    /// By cause, in the order of `Cause::ALL`.
+    /// The counts by cause, in the order of `Cause::ALL`.
     pub(crate) causes: [Count; CAUSES],
-    /// By participant that executed, and last off an exchange.
+    /// The counts by participant that executed. The last one is for executions off an exchange.
     pub(crate) executed: Vec<Count>,
-    /// By participant that was traded through.
+    /// The counts by participant that was traded through.
     pub(crate) passed: Vec<Count>,
-    /// By symbol.
+    /// The counts by symbol.
     pub(crate) syms: Vec<Count>,
-    /// By half hour of the day, of executions with a time.
+    /// The counts by the class of the shares.
+    pub(crate) sizes: [Count; SIZES],
+    /// The counts by half hour of the day, for executions with a time.
     pub(crate) half_hours: [Count; HALF_HOURS],
 }
 
 impl Tally {
-    /// Nothing, for a number of participants and symbols.
+    /// Empty counts for a number of participants and symbols.
     pub(crate) fn none(alloc: Global, parts: usize, syms: usize) -> Result<Tally, AllocError>
         ensures others { IfOk result (λ tally. tally.others ≡ 0) }
         ensures executions { IfOk result (λ tally. tally.all.executions ≡ 0) }
@@ -179,7 +198,7 @@ impl Tally {
         })
     }
 
-    /// Counts one more execution. `None` comes only of sums that no number holds.
+    /// Counts one more execution. `None` comes only if no number holds a sum.
     pub(crate) fn add(&mut self, execution: &Execution, finding: &Finding) -> Option<()>
         ensures others { OnSome result (self.new.others ≡ self.old.others + stands_once is_other finding.now) }
         ensures executions { OnSome result (self.new.all.executions ≡ self.old.all.executions + stands_once is_judged finding.now) }
@@ -211,68 +230,63 @@ impl Tally {
             ≡ self.old.all.through.executions + stands_once is_through finding.now) }
     {
         let sums = sums_of(execution, finding);
-        let is_open = sums.count > 0 && !has_cause(execution, finding, &sums);
-        let all = self.all.with(finding, is_open, &sums)?;
+        let one = One {
+            is_open: sums.count > 0 && !has_cause(execution, finding, &sums),
+            sums,
+            worth: Worth::of(execution, finding)?,
+        };
+        let all = self.all.with(finding, &one)?;
         self.all = all;
-        self.places.add(execution, finding, is_open, &sums)
+        self.places.add(execution, finding, &one)
     }
 }
 
 impl Places {
-    /// Nothing, for a number of participants and symbols.
+    /// Empty counts for a number of participants and symbols.
     fn none(alloc: Global, parts: usize, syms: usize) -> Result<Places, AllocError> {
         Ok(Places {
             causes: [Count::none(); CAUSES],
             executed: counts(alloc, parts)?,
             passed: counts(alloc, parts)?,
             syms: counts(alloc, syms)?,
+            sizes: [Count::none(); SIZES],
             half_hours: [Count::none(); HALF_HOURS],
         })
     }
 
-    /// Counts an execution for its participant, its symbol, its causes, and those that were traded through.
-    fn add(
-        &mut self,
-        execution: &Execution,
-        finding: &Finding,
-        is_open: bool,
-        sums: &Sums,
-    ) -> Option<()> {
+    /// Counts an execution for its participant, its symbol, its size, its causes, and those that it traded through.
+    fn add(&mut self, execution: &Execution, finding: &Finding, one: &One) -> Option<()> {
         let off = self.executed.len().checked_sub(1)?;
         let place = match execution.part {
             Some(part) => usize::from(part.get()),
             None => off,
         };
-        add_to(&mut self.executed, place, finding, is_open, sums)?;
+        add_to(&mut self.executed, place, finding, one)?;
         let sym = usize::from(execution.sym.get());
-        add_to(&mut self.syms, sym, finding, is_open, sums)?;
+        add_to(&mut self.syms, sym, finding, one)?;
+        let size = size_class(execution.shares.get());
+        add_to(&mut self.sizes, size, finding, one)?;
         if let Some(time) = execution.time {
             let half_hour = half_hour_of(time);
-            add_to(&mut self.half_hours, half_hour, finding, is_open, sums)?;
+            add_to(&mut self.half_hours, half_hour, finding, one)?;
         }
-        self.add_causes(execution, finding, is_open, sums)?;
+        self.add_causes(execution, finding, one)?;
         self.add_rows(execution, finding)
     }
 
-    /// Counts it for each cause that applies, if it traded through.
-    fn add_causes(
-        &mut self,
-        execution: &Execution,
-        finding: &Finding,
-        is_open: bool,
-        sums: &Sums,
-    ) -> Option<()> {
-        if !passes_some(finding.standing) {
+    /// Counts an execution for each cause that applies, if it traded through.
+    fn add_causes(&mut self, execution: &Execution, finding: &Finding, one: &One) -> Option<()> {
+        if !finding.standing.passes_some() {
             return Some(());
         }
         for place in 0..CAUSES {
             if Cause::ALL[place].applies(
                 &execution.claims,
                 finding.crossed,
-                sums.helped,
-                sums.is_flickering(),
+                one.sums.helped,
+                one.sums.is_flickering(),
             ) {
-                self.causes[place] = self.causes[place].with(finding, is_open, sums)?;
+                self.causes[place] = self.causes[place].with(finding, one)?;
             }
         }
         Some(())
@@ -293,29 +307,15 @@ impl Places {
     }
 }
 
-/// Whether an execution that stands so trades through, or perhaps does.
-fn passes_some(standing: Standing) -> bool {
-    match standing {
-        Standing::Clean | Standing::Unquoted | Standing::Other => false,
-        Standing::Perhaps | Standing::Through => true,
-    }
-}
-
 /// Counts an execution at a place, if there is that place.
-fn add_to(
-    counts: &mut [Count],
-    place: usize,
-    finding: &Finding,
-    is_open: bool,
-    sums: &Sums,
-) -> Option<()> {
+fn add_to(counts: &mut [Count], place: usize, finding: &Finding, one: &One) -> Option<()> {
     if let Some(count) = counts.get_mut(place) {
-        *count = count.with(finding, is_open, sums)?;
+        *count = count.with(finding, one)?;
     }
     Some(())
 }
 
-/// A number of counts of nothing.
+/// A list of empty counts.
 fn counts(alloc: Global, count: usize) -> Result<Vec<Count>, AllocError> {
     let mut counts = Vec::with_capacity(alloc, count)?;
     for _ in 0..count {
@@ -324,7 +324,7 @@ fn counts(alloc: Global, count: usize) -> Result<Vec<Count>, AllocError> {
     Ok(counts)
 }
 
-/// Whether a cause applies to an execution as a whole: any but self-help, which takes out rows.
+/// Whether a cause applies to all of an execution. Self-help never does, because it takes out rows.
 fn has_cause(execution: &Execution, finding: &Finding, sums: &Sums) -> bool {
     let flickering = sums.is_flickering();
     Cause::ALL.iter().any(|cause| cause.applies(

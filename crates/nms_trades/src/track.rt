@@ -1,4 +1,4 @@
-//! The best protected prices of each version, kept as marks: one where they change: `specs/Track`.
+//! The best protected prices of each version. They are kept as marks, one at each change: `specs/Track`.
 ghost use Rattle.std.specs.Prelude.{◌≡◌, ◌≢◌, ◌+◌, ◌<◌, ◌≤◌, ℕ, true, IfOk, OnOk, length, slice_get};
 ghost use Rattle.nms_trades.specs.Around.{any_version};
 ghost use Rattle.nms_trades.specs.Track.{HasTrack, IsMarked, IsNoted, IsTrack, bid_above, holds_of, mark_at, nothing, offer_below};
@@ -18,7 +18,7 @@ pub(crate) struct Limits {
 }
 
 impl Limits {
-    /// Whether they are these.
+    /// Whether the limits are the same as others.
     fn is_same(self, other: Limits) -> bool
         ensures { result ≡ true → self ≡ other }
     {
@@ -26,32 +26,32 @@ impl Limits {
     }
 }
 
-/// The limits from a version on.
+/// The limits from a version on, until the next mark.
 #[derive(Clone, Copy)]
 pub(crate) struct Mark {
     pub(crate) version: u64,
     pub(crate) limits: Limits,
 }
 
-/// The limits of a symbol, or of a participant in it, in each version: in marks, the first of version 0.
+/// The limits of a symbol, or of a participant in it, in each version. They are kept as marks, and the first mark is of version 0.
 #[derive(Drop)]
 pub(crate) struct Track {
     pub(crate) marks: Vec<Mark>,
 }
 
-/// What is asked of limits, at a price in 1/1,000,000 dollar.
+/// A test of limits, at a price in 1/1,000,000 dollar.
 #[derive(Clone, Copy)]
 pub(crate) enum Test {
-    /// Whether the price trades through one of them.
+    /// Whether the price trades through one of the limits.
     Through,
-    /// Whether it trades through none.
+    /// Whether the price trades through no limit.
     Clean,
-    /// Whether there is one on a side, and it is at the price or inferior to it.
+    /// Whether there is a limit on a side, and it is at the price or inferior to it.
     Inferior(Side),
 }
 
 impl Test {
-    /// Whether it holds of limits.
+    /// Whether the test holds for limits.
     pub(crate) fn holds_of(self, millionths: u64, limits: Limits) -> bool
         requires { millionths ≤ 9999999999999 }
         ensures { result ≡ holds_of self millionths limits }
@@ -99,7 +99,7 @@ fn offer_below(price: u64, offer: Option<u64>) -> bool
     }
 }
 
-/// Adds the limits of one more version to the track at a place: a mark if they are others.
+/// Adds the limits of one more version to the track at a place. If they are new, that adds a mark.
 pub(crate) fn note_at(
     tracks: &mut Vec<Track>,
     place: usize,
@@ -114,7 +114,7 @@ pub(crate) fn note_at(
     note(&mut tracks[place].marks, version, limits)
 }
 
-/// Adds the limits of one more version: a mark if they are others.
+/// Adds the limits of one more version. If they are new, that adds a mark.
 fn note(marks: &mut Vec<Mark>, version: u64, limits: Limits) -> Result<(), AllocError>
     ensures { OnOk result (IsMarked version limits marks.old.items marks.new.items) }
 {
@@ -126,7 +126,7 @@ fn note(marks: &mut Vec<Mark>, version: u64, limits: Limits) -> Result<(), Alloc
     Ok(())
 }
 
-/// Whether a test holds of the limits of some version from one to another.
+/// Whether a test holds for the limits of any version from one to another.
 pub(crate) fn any_version(
     marks: &[Mark],
     test: Test,
@@ -152,7 +152,7 @@ pub(crate) fn any_version(
     false
 }
 
-/// The place of the mark that has the limits of a version, by halves.
+/// The place of the mark that has the limits of a version, found by halving.
 fn mark_of(marks: &[Mark], version: u64) -> usize
     requires { 0 < length marks.now }
     ensures within { result < length marks.now }
@@ -172,7 +172,7 @@ fn mark_of(marks: &[Mark], version: u64) -> usize
     low
 }
 
-/// A number of tracks of nothing at version 0.
+/// A number of tracks without prices at version 0.
 pub(crate) fn no_tracks(alloc: Global, count: usize) -> Result<Vec<Track>, AllocError>
     ensures count { IfOk result (λ tracks. length tracks.items ≡ count) }
     ensures nothing { IfOk result (λ tracks. (place : ℕ) → place < count → HasTrack (λ n. nothing) 0 (slice_get tracks.items place)) }
@@ -184,7 +184,7 @@ pub(crate) fn no_tracks(alloc: Global, count: usize) -> Result<Vec<Track>, Alloc
     Ok(tracks)
 }
 
-/// A track of nothing at version 0.
+/// A track without prices at version 0.
 fn no_track(alloc: Global) -> Result<Track, AllocError>
     ensures { IfOk result (λ track. IsTrack (λ n. nothing) 0 track.marks.items) }
 {

@@ -7,27 +7,27 @@ ghost use Rattle.nms_trades.specs.Faults.{code_of, column_of};
 pub enum TradeFault {
     /// X1: the first field is not `D`.
     UnknownKind,
-    /// X2: it has not nine fields.
+    /// X2: the record does not have nine fields.
     FieldCount,
     /// X3: the name is not 1 to 32 of letters, digits, `.`, `-` and `_`.
     BadName,
     /// X4: the symbol is not on the roster.
     UnknownSymbol,
-    /// X5: the price is none, or zero.
+    /// X5: the text is no price, or the price is zero.
     BadPrice,
-    /// X6: the shares are none, or zero.
+    /// X6: the text is no number of shares, or it is zero.
     BadShares,
     /// X7: the side is not `B`, `S` or empty.
     BadSide,
-    /// X8: it is neither a version of 1 to 9 digits, nor `@` and a time.
+    /// X8: the text is neither a version of 1 to 9 digits, nor `@` and a time.
     BadVersion,
     /// X9: there are fewer changes than the version says.
     Beyond,
     /// X10: the participant is neither empty nor on the roster.
     UnknownParticipant,
-    /// X11: a flag is none, names one who is not on the roster, or is a name itself after those of self-help.
+    /// X11: a text is no flag, names a participant that is not on the roster, or is a name itself after the names of self-help.
     BadFlags,
-    /// X12: a time stands in place of a version, and the changes have no times.
+    /// X12: there is a time instead of a version, and the changes have no times.
     NoTimes,
     /// X13: the file of symbols has no changes of the symbol, so that its times are not known.
     NoChanges,
@@ -55,7 +55,7 @@ impl TradeFault {
         }
     }
 
-    /// The column that it is about, from 1: of the number of fields it is the first.
+    /// The column that the fault is about, counted from 1. For the number of fields it is the first.
     pub(crate) fn column(self) -> u64
         ensures { result ≡ column_of self }
     {

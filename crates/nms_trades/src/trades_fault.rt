@@ -13,22 +13,22 @@ use nms_times::TimesFault;
 use std::fmt;
 use thiserror::Error;
 
-/// Why executions were not judged, or not to the end.
+/// Why executions were not judged, or not all of them.
 #[derive(Clone, Copy, Debug, PartialEq, Eq, Error)]
 pub enum TradesFault {
     /// The file of changes is no tape. Nothing was written.
     Changes(ChangesFault),
-    /// E1 or E4: the file of executions could not be read, or memory ran out for it. Nothing was written.
+    /// E1 or E4: the file of executions could not be read, or out of memory for it. Nothing was written.
     Executions(RecordFault),
-    /// H2 or H3: the times do not rise, or are not as many as the changes. Nothing was written.
+    /// H2 or H3: the times do not rise, or their number is not that of the changes. Nothing was written.
     Times(TimesFault),
-    /// H4: the file of symbols is none. Nothing was written.
+    /// H4: the file of symbols is not one. Nothing was written.
     Symbols(TimesFault),
     /// B1: no memory for the board or for what is found. Nothing was written.
     Board(BoardFault),
     /// E3: there are more than 10,000,000 executions. Nothing was written.
     TooLong,
-    /// E2 or E4: the output could not be written, or memory ran out. A prefix of it may have been written.
+    /// E2 or E4: the output could not be written, or out of memory. A prefix of it may have been written.
     Show(ShowFault),
 }
 
@@ -48,7 +48,7 @@ impl TradesFault {
         }
     }
 
-    /// Whether it is about the file of executions, and not about that of the changes.
+    /// Whether the fault is about the file of executions, and not about that of the changes.
     pub fn is_of_executions(&self) -> bool
         ensures { result ≡ is_of_executions self.now }
     {

@@ -53,8 +53,8 @@ fn is_alone(execution: &Execution) -> bool
     execution.first == execution.version && execution.last == execution.version
 }
 
-/// The standing of an execution on the versions of its window, by what is found on its own version and by the best prices of
-/// its symbol.
+/// The standing of an execution on the versions of its window. It is found from its own version and from the best prices of its
+/// symbol.
 pub(crate) fn standing_in(
     tape: &Tape<'_>,
     bests: &[Track],
@@ -67,7 +67,7 @@ pub(crate) fn standing_in(
     requires own { found.now.standing ≡ own_standing found.now.passed.items }
     ensures { result ≡ standing_in (sizes_in tape.now) tape.now.changes.items execution.now }
 {
-    // The clauses alone speak of the tape.
+    // The parameter is there because only the clauses speak of the tape.
     let _ = tape;
     rows_have_one_rank_order();
     if is_alone(execution) {

@@ -1,8 +1,7 @@
-//! The page of a file of executions: the days of their symbols. How the call ends: `specs/Pages`.
+//! The page of a file of executions, which has the days of their symbols. How the call ends: `specs/Pages`.
 ghost use Rattle.std.specs.Prelude.{◌≡◌, ◌<◌, All, IfErr, IfOk, None, OnOk, false, length, option_copied, true};
 ghost use Rattle.std.specs.Io.KnownBytes.{Appends};
-ghost use Rattle.nms_trades.specs.Answers.{answers_text};
-ghost use Rattle.nms_trades.specs.Files.{IsJudgedFile, is_csv};
+ghost use Rattle.nms_trades.specs.Files.{IsJudgedFile, is_csv, text_in};
 ghost use Rattle.nms_drawing.specs.Drawn.{IsTradesFilePage, IsTradesPage, times_in};
 ghost use Rattle.nms_drawing.specs.Pages.{IsOutputFault, IsPageFault, is_begun};
 
@@ -21,21 +20,21 @@ use nms_trades::{Layout, Timing, write_findings};
 use std::alloc::Global;
 use std::io::{Read, Write};
 
-/// What is asked of a file of executions, next to the page.
+/// What is asked for about a file of executions, next to the page.
 #[derive(Clone, Copy)]
 pub struct Asked<'a> {
     /// The form of the answers.
     pub form: Form,
     /// Their layout.
     pub layout: Layout,
-    /// What the page says that it was made of, by pairs: a key, its text.
+    /// The pairs of a key and its text that say what the page was made from.
     pub pairs: &'a [&'a [u8]],
-    /// Whether the page has best quotations only, and no boards.
+    /// Whether the page has only best quotations, and no boards.
     pub bests: bool,
 }
 
-/// Judges the executions of a file as `judge_file` of `nms_trades` does, with the same answers, and also writes a page: the days of
-/// their symbols, with each execution and the quotations that it traded through.
+/// Judges the executions of a file as `judge_file` of `nms_trades` does, with the same answers, and also writes a page. It has
+/// the days of their symbols, with each execution and the quotations that it traded through.
 ///
 /// `Refused` if a record is refused, else `Done`. Nothing is flushed.
 pub fn write_page<C: Read + Drop, E: Read + Drop, W: Write, P: Write>(
@@ -85,7 +84,7 @@ fn write_both<W: Write, P: Write>(
     ensures page { OnOk result (IsTradesPage tape.now.roster.now tape.now.changes.items (option_copied timing.entry) asked.now judged.now.records.executions.items judged.now.findings.items
         (P.contents page.old) (P.contents page.new)) }
     ensures written { is_csv asked.now.layout asked.now.form ≡ true → OnOk result (Appends (W.contents answers.old) (W.contents answers.new)
-        (answers_text tape.now.roster.now judged.now.records.executions.items judged.now.records.refused.items judged.now.findings.items)) }
+        (text_in asked.now.layout tape.now.roster.now judged.now.records.executions.items judged.now.records.refused.items judged.now.findings.items)) }
     ensures refused { IfErr result IsOutputFault }
 {
     match write_findings(
@@ -156,7 +155,7 @@ fn times_of<'a>(timing: Option<&Timing<'a>>) -> Option<&'a Times>
     }
 }
 
-/// What the page is made of.
+/// The content from which the page is made.
 fn content_of<'x>(
     tape: &'x Tape<'x>,
     judged: &'x Judged,

@@ -1,11 +1,11 @@
-//! What the fields of records are called: `specs/FieldNames`.
+//! The names of the fields of records: `specs/FieldNames`.
 ghost use Rattle.std.specs.Prelude.{◌≡◌};
 ghost use Rattle.nms_explain.specs.FieldNames.{text_of};
 
 /// A field of a record, by the name that the pages on the layouts give it.
 #[derive(Clone, Copy)]
 pub(crate) enum FieldName {
-    /// The first field of each record: its kind, or the word that a plan's record begins with.
+    /// The first field of each record: its kind, or the first word of a plan's record.
     Kind,
     /// A participant.
     Participant,
@@ -45,7 +45,7 @@ pub(crate) enum FieldName {
     Filled,
     /// What a plan costs.
     Cost,
-    /// What a cut says.
+    /// What a cut claims.
     Says,
     /// The money of a cut.
     Value,

@@ -3,8 +3,8 @@
 ghost use Rattle.nms_explain.specs.PlanExamples.{ExamplesHold};
 ghost use Rattle.nms_explain.specs.PlanOrder.{ReadsWhereNoRecordIsWrong};
 
-/// The records of a text are read as a plan exactly when none of them is wrong and none is missing at the end. So a report that
-/// finds nothing wrong with a text, and nothing missing, says that the text is taken.
+/// A text's records are read as a plan if and only if none is wrong and none is missing at the end. So if a report finds
+/// nothing wrong with a text, and nothing missing, the text is taken.
 pub fn a_plan_is_read_where_no_record_is_wrong()
     ensures { ReadsWhereNoRecordIsWrong }
 {}

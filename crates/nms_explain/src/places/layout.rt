@@ -1,4 +1,4 @@
-//! The layouts of records, kind by kind: what their fields are called (`specs/FieldNames`), and what people read of them.
+//! The layouts of records, kind by kind: the names of their fields (`specs/FieldNames`), and the texts about them for people.
 ghost use Rattle.std.specs.Prelude.{◌≡◌, ◌≤◌, length, true};
 ghost use Rattle.csv.specs.Records.{fields_of};
 ghost use Rattle.nms_lines.specs.Layout.{field, is_count, kind_named};
@@ -26,7 +26,7 @@ pub(crate) fn field_in(row: &ByteRecord, place: u8) -> FieldPlace
     }
 }
 
-/// The field after n others of the record of a plan that is due, if one is, by its name.
+/// The field after n others of the plan's record that is due, by its name, if a record is due.
 pub(crate) fn plan_field_in(due: Option<PlanRecord>, place: u8) -> FieldPlace
     ensures { result ≡ field_named (names_due due) place }
 {
@@ -36,7 +36,7 @@ pub(crate) fn plan_field_in(due: Option<PlanRecord>, place: u8) -> FieldPlace
     }
 }
 
-/// The field after n others, if the fields have these names; any past them is called as the first of a record.
+/// The field after n others, if the fields have these names. A field past them is called as the first of a record.
 fn field_named(names: &[FieldName], place: u8) -> FieldPlace
     ensures { result ≡ field_named names.now place }
 {
@@ -52,7 +52,7 @@ pub(crate) fn most_fields(row: &ByteRecord) -> usize {
     kind_of(row).map_or(0, |kind| names_of(kind, row.len()).len())
 }
 
-/// What the fields of a record of the kind are called, if it has `count` fields; all that it may have, if it has another number.
+/// The names of the fields of a record of the kind, if it has `count` fields. If it has another number, those of the most fields.
 fn names_of(kind: Kind, count: usize) -> &'static [FieldName]
     ensures names { result.now ≡ names_of kind count }
     ensures each { is_count kind count ≡ true → count ≤ length result.now }
@@ -104,7 +104,7 @@ fn names_of(kind: Kind, count: usize) -> &'static [FieldName]
     }
 }
 
-/// What the fields of a plan's record are called.
+/// The names of the fields of a plan's record.
 fn plan_names(sort: PlanRecord) -> &'static [FieldName]
     ensures { result.now ≡ plan_names sort }
 {

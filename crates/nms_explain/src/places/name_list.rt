@@ -5,7 +5,7 @@ ghost use Rattle.nms_explain.specs.Names.{IsFirstUnknown, IsListed};
 
 use nms_quote::Roster;
 
-/// How many names of a field, joined by `+`, stand before the first that is not on the roster. None if each is on it. An empty
+/// How many names of a field, joined by `+`, come before the first that is not on the roster. None if each is on it. An empty
 /// name, as after a last `+`, is on no roster.
 pub(crate) fn unknown_name(text: &[u8], roster: &Roster) -> Option<usize>
     ensures first { IfSome result (IsFirstUnknown roster.now (joined_names text.now)) }
@@ -17,7 +17,7 @@ pub(crate) fn unknown_name(text: &[u8], roster: &Roster) -> Option<usize>
         if roster.find_part(name).is_none() {
             return Some(nth);
         }
-        // after the first name each has a `+` before it
+        // After the first name each has a `+` before it.
         if nth < most {
             nth += 1;
         }

@@ -6,14 +6,14 @@ use super::field_name::FieldName;
 /// A field of a record.
 #[derive(Clone, Copy)]
 pub(crate) struct FieldPlace {
-    /// How many fields stand before it.
+    /// How many fields come before it.
     pub(crate) place: usize,
-    /// What it is called.
+    /// Its name.
     pub(crate) name: FieldName,
 }
 
 impl FieldPlace {
-    /// The field of that name after n others.
+    /// The field with a name after n others.
     pub(crate) fn at(place: usize, name: FieldName) -> Self
         ensures { result ≡ record { place = place; name = name } }
     {

@@ -15,36 +15,36 @@ const MOST: u8 = 32;
 /// Which records of a plan's text may come next.
 #[derive(Clone, Copy)]
 pub(crate) enum PlanDue {
-    /// The record of the plan.
+    /// The record of the plan is due.
     Plan,
-    /// A leg, a cut, or the end.
+    /// A leg, a cut, or the end is due.
     Leg,
-    /// A cut, or the end.
+    /// A cut, or the end is due.
     Cut,
-    /// Nothing: the end came.
+    /// Nothing is due, because the end came.
     Nothing,
 }
 
 /// What is wrong with a record of a plan's text.
 #[derive(Clone, Copy)]
 pub(crate) enum PlanTrouble {
-    /// It is not due, or a plan can't have one of its fields.
+    /// The record is not due, or a plan can't have one of its fields.
     Wrong(FaultPlace),
-    /// It is the 33rd leg, or the 33rd cut.
+    /// The record is the 33rd leg, or the 33rd cut.
     TooMany,
 }
 
 /// How far the records of a plan's text have come.
 #[derive(Clone, Copy)]
 pub(crate) struct PlanWalk {
-    /// What is due.
+    /// The record that is due.
     pub(crate) due: PlanDue,
     /// How many legs came, or cuts if cuts are due, at most 33.
     pub(crate) count: u8,
 }
 
 impl PlanWalk {
-    /// Before the first record.
+    /// The walk before the first record.
     pub(crate) fn new() -> Self
         ensures due { result.due ≡ PlanDue.Plan }
         ensures passed { HasPassed [] result }
@@ -96,14 +96,14 @@ impl PlanWalk {
     }
 }
 
-/// The next number, as far as the first that is too many.
+/// The next number, up to the first that is too many.
 fn one_more(count: u8) -> u8
     ensures { result ≡ min 33 (count + 1) }
 {
     if count < MOST { count + 1 } else { MOST + 1 }
 }
 
-/// Where a record is wrong if that is due.
+/// The place at which a record is wrong if another is due.
 fn due_place(due: PlanDue, row: &ByteRecord, roster: &Roster) -> Option<FaultPlace>
     ensures { result ≡ due_place due roster.now (fields_of row.now) }
 {
@@ -113,7 +113,7 @@ fn due_place(due: PlanDue, row: &ByteRecord, roster: &Roster) -> Option<FaultPla
     }
 }
 
-/// As which record one that begins with the word is read, by what is due; none after the end.
+/// The record as which one that begins with the word is read, by what is due; none after the end.
 pub(crate) fn record_due(due: PlanDue, word: &[u8]) -> Option<PlanRecord>
     ensures { result ≡ record_due due word.now }
 {

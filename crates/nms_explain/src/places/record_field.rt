@@ -5,7 +5,7 @@ ghost use Rattle.nms_lines.specs.Layout.{field};
 
 use nms_lines::ByteRecord;
 
-/// The bytes of the field after n others, none after the last.
+/// The bytes of the field after n others; none after the last.
 pub(crate) fn text_at(row: &ByteRecord, place: usize) -> &[u8]
     ensures { result.now ≡ field (fields_of row.now) place }
 {

@@ -20,12 +20,12 @@ use toml::Table;
 /// The most faults that are reported.
 const MOST_TOLD: usize = 100;
 
-/// Prints why a mapping is refused: the first 100 of its faults, each with its line, table, key, value and what is expected; or
-/// that there is none. It ends with `SetupRefused` if there is a fault.
+/// Prints why a mapping is refused, or that it has no fault. The first 100 faults are printed, each with its line, table, key,
+/// value and what is expected. It ends with `SetupRefused` if there is a fault.
 ///
-/// Each key that is not known or absent is a fault, each value that is not allowed, and of a list each word. The value of a key
-/// that is not known is that of the key that was meant. A text that is no TOML document has one fault, M1, at the place where the
-/// parser stopped.
+/// Each unknown or absent key is a fault. So is each value that is not allowed, and each such word of a list. The value of an
+/// unknown key counts as that of the key that was meant. A text that is not a TOML document has one fault, M1, at the place at
+/// which the parser stopped.
 ///
 /// Errors: `WriteFault` if `answers` refuses, `NoMemory` if out of memory. A prefix of the text may have been written. What is
 /// written is safe to show on a terminal.
@@ -91,7 +91,7 @@ fn tell_document<W: Write>(
     }
 }
 
-/// Prints the faults of a document in which these were found, as they are without keys that were meant.
+/// Prints the faults that were found in a document, without guessing which keys were meant.
 fn tell_found<W: Write>(
     told: Told<'_>,
     draft: Draft<'_>,
@@ -117,7 +117,7 @@ fn tell_none<W: Write>(told: Told<'_>, answers: &mut W) -> Result<Ending, ShowFa
     Ok(Ending::Done)
 }
 
-/// Prints the faults of a document that has some, where keys that are not known are taken for those that were meant.
+/// Prints the faults of a document that has some. Unknown keys are taken for those that were meant.
 #[tactic(auto, using(nms_show::proofs::Offered::no_part_added))]
 fn tell_meant<W: Write>(
     told: Told<'_>,

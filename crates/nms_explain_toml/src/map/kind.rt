@@ -1,4 +1,4 @@
-//! What a mapping is for, by what it says: `specs/Kinds`.
+//! The kind of a mapping, by its content: `specs/Kinds`.
 ghost use Rattle.std.specs.Prelude.{◌≡◌};
 ghost use Rattle.toml.specs.View.{table_view};
 ghost use Rattle.nms_explain_toml.specs.Kinds.{has_column, has_other_kind, kind_of};
@@ -7,14 +7,17 @@ use nms_import::{Draft, Kind};
 use nms_import_trades::is_of_trades;
 use toml::Table;
 
-/// What the mapping of a document is for: trades if it says so, or has their price and another kind than quotes; national bests if
-/// it has one of their columns.
+/// The kind of the mapping of a document. It is of trades if the document says so, or has their price and another kind than
+/// quotes. It is of national bests if it has one of their columns.
 pub(crate) fn kind_of(document: &Table) -> Kind
     ensures { result ≡ kind_of (table_view document.now) }
 {
     if is_of_trades(document) || has_other_kind(document) && has_column(document, "price") {
         Kind::Trades
-    } else if has_column(document, "bid_participant") || has_column(document, "offer_participant") {
+    } else if has_column(document, "bid_participant")
+        || has_column(document, "offer_participant")
+        || has_column(document, "ask_participant")
+    {
         Kind::Bests
     } else {
         Kind::Quotes

@@ -1,9 +1,9 @@
-//! The keys that were meant by those that are not known.
+//! The keys that unknown ones probably mean.
 use crate::near::{MOST_EDITS, edits_between};
 use nms_import::{Draft, Meant, is_key, is_of};
 use std::alloc::{AllocError, Global};
 
-/// The tables that were meant by names at the top of a document that are not known.
+/// The tables that unknown names at the top of a document probably mean.
 pub(crate) fn meant_at_top<'a>(
     alloc: Global,
     draft: Draft<'a>,
@@ -13,7 +13,7 @@ pub(crate) fn meant_at_top<'a>(
     Ok(meant)
 }
 
-/// These, and the keys that were meant by names in each table.
+/// Those tables, and the keys that names in each table probably mean.
 pub(crate) fn meant_in_all<'a>(
     alloc: Global,
     draft: Draft<'a>,
@@ -28,7 +28,7 @@ pub(crate) fn meant_in_all<'a>(
     Ok(meant)
 }
 
-/// Adds the keys that were meant by names in a table that are not known.
+/// Adds the keys that unknown names in a table probably mean.
 fn add_meant<'a>(
     alloc: Global,
     draft: Draft<'a>,
@@ -75,7 +75,7 @@ fn nearest_known(
     Ok(nearest)
 }
 
-/// Whether a document has no key of this name, and no name that is taken for it.
+/// Whether a document has no key with this name, and no name that is taken for it.
 fn is_absent(draft: Draft<'_>, meant: &[Meant<'_>], table: &str, key: &str) -> bool {
     draft.value(table, key).is_none() && !meant.iter().any(|it| it.table == table && it.key == key)
 }

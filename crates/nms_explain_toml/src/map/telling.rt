@@ -1,4 +1,4 @@
-//! One fault of a mapping, as it is printed.
+//! Printing one fault of a mapping.
 ghost use Rattle.std.specs.Prelude.{◌≡◌, ◌&&◌, IfOk, true};
 ghost use Rattle.std.specs.List.{list_all};
 ghost use Rattle.nms_show.specs.Plain.{is_own_plain, is_plain};
@@ -30,11 +30,11 @@ struct Refusal<'a> {
     /// The table and the key; none if the text is no document.
     table: Option<&'static str>,
     key: Option<&'a str>,
-    /// What stands there.
+    /// What is found there.
     found: Item<'a>,
-    /// What should stand there; or the parser's message, if the text is no document.
+    /// What is expected there; or the parser's message, if the text is no document.
     expected: &'a str,
-    /// The key that was meant, or one in the place of an absent one.
+    /// The key that was meant, or a similar one if the key is absent.
     meant: Option<&'a str>,
 }
 
@@ -100,7 +100,7 @@ pub(crate) fn tell_finding<'a, W: Write>(
     tell_refusal(told.alloc, told.form, &refusal, answers)
 }
 
-/// The keys that may stand in the place of one that is not known.
+/// The keys that are allowed instead of an unknown one.
 fn others_text(
     alloc: Global,
     draft: Draft<'_>,
@@ -112,7 +112,7 @@ fn others_text(
     }
 }
 
-/// Where a key with its value stands, or the word at that place of the list there.
+/// The place of a key with its value, or of a word of its list.
 fn located<'a>(text: &'a [u8], table: &str, key: &str, word: Option<usize>) -> Option<Marked<'a>> {
     let at_key = locate_named(text, table.as_bytes(), key.as_bytes())?;
     let at_word = match word {
@@ -122,7 +122,7 @@ fn located<'a>(text: &'a [u8], table: &str, key: &str, word: Option<usize>) -> O
     Some(at_word.unwrap_or(at_key))
 }
 
-/// Where the word at that place of a list stands, which begins where the value does that is marked.
+/// The place of a word of a list that begins at the marked value.
 fn word_in<'a>(text: &'a [u8], at_key: Marked<'a>, word: usize) -> Option<Marked<'a>> {
     let begins = at_key.before.checked_add(at_key.pair.start)?;
     let at = begins.checked_add(element_in(text.get(begins..)?, word)?)?;
@@ -132,7 +132,7 @@ fn word_in<'a>(text: &'a [u8], at_key: Marked<'a>, word: usize) -> Option<Marked
     Some(marked.at(start, end))
 }
 
-/// The part of the text that is reported: the key or its value if its line was found, else its table.
+/// The part of the text that is reported. It is the key or its value if its line was found, else its table.
 fn part_at<'a>(wrong: Wrong, at_key: Option<Marked<'a>>, at_table: Marked<'a>) -> Marked<'a> {
     match (wrong, at_key) {
         (Wrong::Unknown, Some(marked)) => marked.at_key(),
@@ -141,7 +141,7 @@ fn part_at<'a>(wrong: Wrong, at_key: Option<Marked<'a>>, at_table: Marked<'a>) -
     }
 }
 
-/// What stands at a place: the key that is not known, or the value that is not allowed, if its line was found.
+/// What is found at a place: the unknown key, or the value that is not allowed, if its line was found.
 fn found_at<'a>(finding: &Finding<'a>, at_key: Option<Marked<'a>>) -> Item<'a>
     ensures { is_own_plain result ≡ true }
 {
@@ -163,7 +163,7 @@ fn sentence_of(wrong: Wrong) -> &'static str
     }
 }
 
-/// The line to report for a table: its header, or the text's first.
+/// The line to report for a table: its header, or the first line of the text.
 fn marked_table<'a>(text: &'a [u8], table: &str) -> Marked<'a> {
     let header = if table.is_empty() {
         None
@@ -291,7 +291,7 @@ pub(crate) fn tell_summary<W: Write>(
     write_plain_line(answers, told.form, &items)
 }
 
-/// Words that say that there are more faults, if there are.
+/// The words for more faults, if there are any.
 fn more_item(more: bool) -> Item<'static>
     ensures { is_own_plain result ≡ true }
 {

@@ -3,7 +3,7 @@ use nms_fees::Caps;
 use nms_setup_places::{Choices, Form, KnownKey, SetupArray, SetupTable, form_of};
 use std::alloc::{AllocError, Global};
 
-/// What the value at a key has to be.
+/// The value that is expected at a key.
 pub(crate) fn expected_at(
     alloc: Global,
     choices: Choices,
@@ -29,7 +29,7 @@ pub(crate) fn expected_at(
     }
 }
 
-/// What a number counts, if its key does not say.
+/// The unit of a number, if its key does not say it.
 fn unit_of(key: KnownKey) -> &'static str {
     if key == KnownKey::Lot {
         "shares of a round lot, "
@@ -38,7 +38,7 @@ fn unit_of(key: KnownKey) -> &'static str {
     }
 }
 
-/// What a fee or a rate has to be.
+/// The fee or the rate that is expected.
 fn charge_expected(
     alloc: Global,
     caps: Caps,
@@ -60,7 +60,7 @@ fn charge_expected(
     )
 }
 
-/// What a name has to be.
+/// The name that is expected.
 fn name_expected(array: SetupArray) -> &'static str {
     match array {
         SetupArray::Participant => "a text in quotes, 1 to 4 of A to Z and 0 to 9",
@@ -82,7 +82,7 @@ fn letter_of(feeds: u8) -> &'static str {
     }
 }
 
-/// The keys of which one is expected.
+/// The keys that are expected in a table, one of which is missing or wrong.
 pub(crate) fn keys_expected(table: SetupTable) -> &'static str {
     match table {
         SetupTable::Top => "one of tape_limit, queue, desks, caps, feeds, participant, symbol",

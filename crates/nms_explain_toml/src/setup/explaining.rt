@@ -21,15 +21,15 @@ use std::io::Write;
 use std::str;
 use toml::Table;
 
-/// How many faults are reported one by one. The others are only counted.
+/// How many faults are reported one by one. Further ones are only counted.
 const MOST_TOLD: usize = 100;
 
 /// Reports why a setup is refused: each of its faults with its line, table, key, value and bound; or that it has none. It ends
 /// with `SetupRefused` if there is a fault.
 ///
-/// If the text is no TOML document, its one fault is C1, at the place where the parser stopped.
+/// If the text is not a TOML document, its only fault is C1, at the place at which the parser stopped.
 ///
-/// What is written is safe to show on a terminal; at an error it is a prefix of such a text.
+/// What is written is safe to show on a terminal. At an error it is a prefix of such a text.
 #[tactic(auto, using(nms_show::proofs::Offered::no_part_added))]
 pub fn explain_setup<W: Write>(
     alloc: Global,
@@ -48,7 +48,7 @@ pub fn explain_setup<W: Write>(
     Ok(ending)
 }
 
-/// Reports it on a text that is not printed yet.
+/// Reports why a setup is refused on a text that is not printed yet.
 fn tell_setup(file: &str, text: &[u8], out: &mut SafeText) -> Result<Ending, AllocError>
     ensures read { IfOk result (λ ending. IsUtf8 text.now → ending ≡ ending_at (parse_document text.now)) }
     ensures no_text { IfOk result (λ ending. ¬ (IsUtf8 text.now) → ending ≡ Ending.SetupRefused) }
@@ -62,7 +62,7 @@ fn tell_setup(file: &str, text: &[u8], out: &mut SafeText) -> Result<Ending, All
     }
 }
 
-/// Reports it for a text that is UTF-8.
+/// Reports why a setup is refused, if its text is UTF-8.
 fn tell_text(file: &str, text: &str, out: &mut SafeText) -> Result<Ending, AllocError>
     ensures ending { IfOk result (λ ending. ending ≡ ending_at (parse_document text.now)) }
 {
@@ -77,7 +77,7 @@ fn tell_text(file: &str, text: &str, out: &mut SafeText) -> Result<Ending, Alloc
     }
 }
 
-/// Reports where and why a text is no TOML document.
+/// Reports where and why a text is not a TOML document.
 fn tell_no_toml<'a>(
     file: &'a str,
     text: &'a [u8],
@@ -154,7 +154,7 @@ fn tell_findings(
         let room = MOST_TOLD - summary.told;
         let faults = faults_at(document, finding);
         tell_finding(told, choices, document, finding, room, out)?;
-        // Only a text too long for any memory has more faults than a count.
+        // The sum is never too great, because only a text too long for any memory has more faults than a count.
         let Some(sum) = summary.faults.checked_add(faults) else {
             return Err(AllocError);
         };
@@ -167,7 +167,7 @@ fn tell_findings(
     Ok(summary)
 }
 
-/// The one of two faults with the lesser number.
+/// The fault with the lesser number of two.
 fn lesser(least: Option<SetupFault>, fault: SetupFault) -> SetupFault {
     match least {
         Some(least) if Code::of_setup(least) <= Code::of_setup(fault) => least,

@@ -18,7 +18,7 @@ use nms_show::{Item, SafeText};
 use std::alloc::{AllocError, Global};
 use toml::{Table, Value};
 
-/// How many faults a finding has: each key that may not stand in a table is one.
+/// How many faults a finding has: each key that is not allowed in a table is one.
 pub(crate) fn faults_at(document: &Table, finding: &Finding) -> usize {
     match (finding.spot, members_of(document, finding.table)) {
         (Spot::OtherKeys, Some(members)) => members
@@ -49,7 +49,7 @@ pub(crate) fn tell_finding(
     }
 }
 
-/// Reports the fault of a key that may stand in a table.
+/// Reports the fault of a key that is allowed in a table.
 fn tell_key(
     told: Report<'_>,
     choices: Choices,
@@ -96,7 +96,7 @@ fn tell_absent<'a>(
     tell_refusal(&refusal, out)
 }
 
-/// The key that the table has in place of an absent one.
+/// The key that a table probably has instead of an absent one.
 fn absent_hint(
     alloc: Global,
     table: SetupTable,
@@ -139,7 +139,7 @@ fn tell_value<'a>(
     tell_refusal(&refusal, out)
 }
 
-/// What stands at a key: how many tables, if their number is refused; else the value as it is written. If its line was not
+/// What is found at a key: how many tables, if their number is refused; else the value as it is written. If its line was not
 /// found, the kind of the value.
 fn found_at<'a>(at_key: Option<Marked<'a>>, fault: SetupFault, value: &'a Value) -> Item<'a>
     ensures { is_own_plain result ≡ true }
@@ -168,7 +168,7 @@ fn counted_at(fault: SetupFault, value: &Value) -> Option<usize> {
     }
 }
 
-/// Reports each key that may not stand in a table, up to n.
+/// Reports each key that is not allowed in a table, up to n.
 fn tell_others(
     told: Report<'_>,
     document: &Table,
@@ -192,7 +192,7 @@ fn tell_others(
     Ok(())
 }
 
-/// Reports one key that may not stand in a table, with the nearest known key.
+/// Reports one key that is not allowed in a table, with the nearest known key.
 fn tell_other<'a>(
     told: Report<'a>,
     document: &'a Table,
@@ -268,7 +268,7 @@ fn tell_again<'a>(
     first: usize,
     out: &mut SafeText,
 ) -> Result<(), AllocError> {
-    // No memory holds as many elements as a number can count.
+    // The sum is never too great, because no memory has room for more elements.
     let Some(place) = first.checked_add(1) else {
         return Err(AllocError);
     };
@@ -294,7 +294,7 @@ fn tell_again<'a>(
     tell_refusal(&refusal, out)
 }
 
-/// The line to report for a table: its first line, or that of its array's key, or the text's first.
+/// The line to report for a table: its first line, or that of its array's key, or the first line of the text.
 fn marked_table<'a>(told: Report<'a>, table: SetupTable) -> Marked<'a> {
     let first = mark_at(told.text, 0, 0);
     let Some((array, _)) = row_of(table) else {

@@ -1,10 +1,10 @@
-//! What a text looks like if it is no setup, and what a refused place probably means.
+//! What a text that is no setup looks like, and what a refused place probably means.
 use crate::toml_line::header_in;
 use nms_fees::SetupFault;
 use nms_setup_places::{Finding, KnownKey, Spot};
 use toml::Value;
 
-/// What a text that is no TOML document looks like, or what its refused line looks like. Nothing if it looks like neither.
+/// What a text that is not a TOML document looks like, or what its refused line looks like. Empty if it looks like neither.
 pub(crate) fn text_hint(text: &[u8], line: &[u8], place: usize) -> &'static str {
     if is_utf16(text) {
         return "the file looks like UTF-16: save it as UTF-8";
@@ -15,7 +15,7 @@ pub(crate) fn text_hint(text: &[u8], line: &[u8], place: usize) -> &'static str 
     line_hint(line, place)
 }
 
-/// Whether a text begins as UTF-16 does: with its byte order mark, or with a letter beside a zero byte.
+/// Whether a text begins as UTF-16 does: with its byte order mark, or with a letter next to a zero byte.
 fn is_utf16(text: &[u8]) -> bool {
     matches!(
         text,
@@ -33,7 +33,7 @@ fn begins_records(text: &[u8]) -> bool {
     kind > 0 && first.get(kind) == Some(&b',')
 }
 
-/// What a line probably means at the place where the parser stopped.
+/// What a line probably means at the place at which the parser stopped.
 fn line_hint(line: &[u8], place: usize) -> &'static str {
     if let Some((name, false)) = header_in(line) {
         if name == b"participant".as_slice() || name == b"symbol".as_slice() {
@@ -83,7 +83,7 @@ fn kind_hint(key: KnownKey, value: &Value) -> &'static str {
     }
 }
 
-/// What a text in small letters, or with spaces round it, probably means.
+/// What a text in small letters, or with spaces around it, probably means.
 fn letters_hint(value: &Value) -> &'static str {
     let Some(text) = value.as_str() else {
         return "";

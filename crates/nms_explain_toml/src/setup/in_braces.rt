@@ -1,4 +1,4 @@
-//! Where an element of an array in brackets stands, and a key of an element in braces.
+//! Finding an element of an array in brackets, and a key of an element in braces.
 ghost use Rattle.std.specs.Prelude.{◌<◌, ◌-◌, IfSome, length};
 ghost use Rattle.nms_explain_toml.specs.Lines.{IsIn};
 
@@ -6,7 +6,7 @@ use crate::marked::line_from;
 use crate::nest::Nest;
 use crate::toml_line::{Pair, pair_in};
 
-/// How many bytes stand before an element of an array, given how many elements do.
+/// How many bytes come before an element of an array, given how many elements do.
 pub(crate) fn element_in(array: &[u8], place: usize) -> Option<usize>
     ensures { IfSome result (λ at. at < length array.now) }
 {
@@ -34,7 +34,7 @@ fn begins_value(byte: u8) -> bool {
     !byte.is_ascii_whitespace() && byte != b'#' && byte != b']'
 }
 
-/// Where a key stands in a table in braces: how many bytes stand before it, and the key with its value from there on.
+/// The place of a key in a table in braces: how many bytes come before it, and the key with its value from there.
 pub(crate) fn key_in(table: &[u8], key: &[u8]) -> Option<(usize, Pair)>
     ensures at { IfSome result (λ found. found.0 < length table.now) }
     ensures pair { IfSome result (λ found. IsIn (length table.now - found.0) found.1) }
@@ -57,7 +57,7 @@ pub(crate) fn key_in(table: &[u8], key: &[u8]) -> Option<(usize, Pair)>
     None
 }
 
-/// Whether a key may begin after a byte of a table in braces, given whether one may begin at it.
+/// Whether a key may begin after a byte of a table in braces, given whether one may begin at the byte.
 fn keys_begin_after(nest: Nest, byte: u8, may_begin: bool) -> bool {
     match byte {
         b'{' => nest.is_plain_at(0),

@@ -1,5 +1,5 @@
-//! Where a table and a key stand in a setup's text. This does not find all that TOML allows: not a key with escapes, nor one
-//! below a header with points. The text is walked once, for the lines that have a header or a key; then each place is looked
+//! Finding a table and a key in a setup's text. It does not find everything that TOML allows: neither a key with escapes, nor
+//! one below a header with points. The text is read once for the lines that have a header or a key; then each place is looked
 //! for among these.
 ghost use Rattle.std.specs.Prelude.{◌≡◌, ◌+◌, ◌-◌, ◌^◌, ◌<◌, ◌≤◌, IfSome, length};
 ghost use Rattle.nms_explain_toml.specs.Lines.{IsIn};
@@ -23,9 +23,9 @@ pub(crate) struct Lines {
 #[derive(Clone, Copy)]
 struct Entry {
     at: Reached,
-    /// How many bytes it has, without its end.
+    /// How many bytes the line has, without its end.
     long: usize,
-    /// The table that begins with it, if one does.
+    /// The table that begins with the line, if one does.
     begins: Option<SetupTable>,
 }
 
@@ -71,7 +71,7 @@ fn has_words(line: &[u8]) -> bool {
 }
 
 impl Entry {
-    /// The line; none if it is not of that text.
+    /// The line; none if the text does not have it.
     fn line(self, text: &[u8]) -> Option<&[u8]>
         ensures { IfSome result (λ line. self.at.start.bytes + length line.now ≤ length text.now) }
     {
@@ -93,7 +93,7 @@ impl Entry {
     }
 }
 
-/// Where a key stands in a table. For a table at a key of the top, or of an element of an array, this is its header.
+/// The place of a key in a table. For a table at a key of the top, or of an element of an array, it is its header.
 pub(crate) fn locate_key<'a>(
     lines: &Lines,
     text: &'a [u8],
@@ -111,7 +111,7 @@ pub(crate) fn locate_key<'a>(
     Some(mark_from(text, begins + before, pair))
 }
 
-/// A key with its value in the line that holds a place, by the bytes from that place on.
+/// A key with its value in the line with a given place, by the bytes from that place on.
 fn mark_from(text: &[u8], place: usize, pair: Pair) -> Marked<'_>
     requires within { place ≤ length text.now }
     requires pair { IsIn (length text.now - place) pair }
@@ -139,7 +139,7 @@ fn locate_line<'a>(
     None
 }
 
-/// Where a table begins: its header, or its element in an array in brackets.
+/// The beginning of a table: its header, or its element in an array in brackets.
 pub(crate) fn locate_table<'a>(
     lines: &Lines,
     text: &'a [u8],
@@ -169,7 +169,7 @@ fn locate_header<'a>(lines: &Lines, text: &'a [u8], table: SetupTable) -> Option
     None
 }
 
-/// Where an element of an array in brackets begins: how many bytes of the text stand before it.
+/// The beginning of an element of an array in brackets: how many bytes of the text come before it.
 fn locate_element(lines: &Lines, text: &[u8], array: SetupArray, place: usize) -> Option<usize>
     ensures { IfSome result (λ begins. begins ≤ length text.now) }
 {
@@ -179,7 +179,7 @@ fn locate_element(lines: &Lines, text: &[u8], array: SetupArray, place: usize) -
     Some(begins + element_in(&text[begins..], place)?)
 }
 
-/// The array that a table is an element of, and how many elements stand before it.
+/// The array of which a table is an element, and how many elements come before it.
 pub(crate) fn row_of(table: SetupTable) -> Option<(SetupArray, usize)> {
     match table {
         SetupTable::Top => None,
@@ -191,17 +191,17 @@ pub(crate) fn row_of(table: SetupTable) -> Option<(SetupArray, usize)> {
 /// A line of a setup's text.
 #[derive(Clone, Copy)]
 struct Reached {
-    /// Where it begins.
+    /// The beginning of the line.
     start: LineStart,
-    /// The table in which it is, if that is one of a setup's.
+    /// The table of the line, if it is one of a setup's.
     table: Option<SetupTable>,
-    /// How many headers of the two arrays stand before it.
+    /// How many headers of the two arrays come before the line.
     participants: usize,
     symbols: usize,
 }
 
 impl Reached {
-    /// Before the first line.
+    /// The state before the first line.
     fn top() -> Reached
         ensures start { result.start.bytes ≡ 0 }
         ensures depth { result.start.nest.depth ≡ 0 }
@@ -239,8 +239,8 @@ impl Reached {
         self.start.key_of(text, line, is_in, is_top, key)
     }
 
-    /// Whether this line is the header of a table that is a key of an element of an array, as `[participant.name]`: it is the
-    /// key of the last element that began before it.
+    /// Whether this line is the header of a table that is a key of an element of an array, as `[participant.name]`. It belongs
+    /// to the last element that began before it.
     fn is_header_of(self, line: &[u8], table: SetupTable, key: &[u8]) -> bool {
         let (array, began) = match table {
             SetupTable::Top => return false,
@@ -255,7 +255,7 @@ impl Reached {
         }
     }
 
-    /// In the table of this line, if it is a header.
+    /// The state in the table of this line, if the line is a header.
     fn entering(self, line: &[u8]) -> Reached
         requires within { self.start.bytes + length line.now < 2 ^ 64 }
         requires participants { self.participants ≤ self.start.bytes }
@@ -273,7 +273,7 @@ impl Reached {
         }
     }
 
-    /// After a line and its end.
+    /// The state after a line and its end.
     fn after(self, line: &[u8]) -> Reached
         requires within { self.start.bytes + length line.now + 1 < 2 ^ 64 }
         requires depth { self.start.nest.depth ≤ self.start.bytes }
@@ -290,7 +290,7 @@ impl Reached {
         }
     }
 
-    /// In the table of a header.
+    /// The state in the table of a header.
     fn entered(self, name: &[u8], is_double: bool) -> Reached
         requires participants { self.participants + 1 < 2 ^ 64 }
         requires symbols { self.symbols + 1 < 2 ^ 64 }
@@ -312,12 +312,12 @@ impl Reached {
     }
 }
 
-/// Whether one more than a place is n.
+/// Whether a place plus one is n.
 fn is_next(place: usize, count: usize) -> bool {
     count > 0 && count - 1 == place
 }
 
-/// Whether the name in a header is that of a table, a point, and a key, or begins so.
+/// Whether the name in a header is that of a table, a point, and a key, or begins with these.
 fn is_within(name: &[u8], table: &[u8], key: &[u8]) -> bool {
     let Some((first, rest)) = key_at(name) else {
         return false;

@@ -9,7 +9,7 @@ const MOST_COMPARED: usize = 100;
 /// The distance of a key that is not near.
 const TOO_FAR: usize = 6;
 
-/// The known key that is nearest to an unknown key, if one is near; absent ones are preferred.
+/// The known key that is nearest to an unknown key, if one is near. Absent keys are preferred.
 pub(crate) fn nearest_known(
     alloc: Global,
     table: SetupTable,
@@ -29,7 +29,8 @@ pub(crate) fn nearest_known(
     Ok(nearest)
 }
 
-/// How far a known key is, by the edits that lead to it: of two with as many edits, one that stands in the table is farther.
+/// The distance of a known key, by the edits that lead to it. If two keys have the same number of edits, one that is in the
+/// table is farther.
 fn distance(edits: usize, stands: bool) -> usize {
     if edits > MOST_EDITS {
         return TOO_FAR;

@@ -1,4 +1,4 @@
-//! What each fault of a setup is, in a sentence.
+//! The sentence for each fault of a setup.
 ghost use Rattle.std.specs.Prelude.{◌≡◌, true};
 ghost use Rattle.nms_show.specs.Plain.{is_plain};
 

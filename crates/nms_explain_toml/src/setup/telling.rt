@@ -1,4 +1,4 @@
-//! One refusal of a setup, as it is reported.
+//! One refusal of a setup, and how it is reported.
 ghost use Rattle.std.specs.Prelude.{◌≡◌, true};
 ghost use Rattle.nms_show.specs.Plain.{is_own_plain, is_plain};
 
@@ -17,25 +17,25 @@ pub(crate) struct Refusal<'a> {
     pub(crate) file: &'a str,
     /// The line that is reported, with the part of it that is wrong.
     pub(crate) marked: Marked<'a>,
-    /// The fault, and what it is in words.
+    /// The fault, and its words.
     pub(crate) fault: SetupFault,
     pub(crate) sentence: &'a str,
-    /// The table, none if the text is no document.
+    /// The table; none if the text is no document.
     pub(crate) table: Option<SetupTable>,
     /// The name in that table, if it has one.
     pub(crate) name: Option<&'a str>,
     /// The key, if the fault is of one.
     pub(crate) key: Option<&'a str>,
-    /// What stands there, or how many tables do: nothing if the key is absent.
+    /// What is found there, or how many tables; nothing if the key is absent.
     pub(crate) found: Item<'a>,
-    /// What should stand there; or the parser's message, if the text is no document.
+    /// What is expected there; or the parser's message, if the text is no document.
     pub(crate) expected: &'a str,
-    /// What it probably means, or nothing.
+    /// What it probably means, or an empty text.
     pub(crate) hint: &'a str,
 }
 
-/// Writes a refusal: its place in the file, the line with carets under what is wrong, what was found and what is
-/// expected, and what to do. If the text is no document, the parser's message stands for what is expected.
+/// Writes a refusal: its place in the file, the line with carets under what is wrong, what was found and what is expected. It
+/// also writes what to do. If the text is no document, the parser's message replaces what is expected.
 pub(crate) fn tell_refusal(refusal: &Refusal<'_>, out: &mut SafeText) -> Result<(), AllocError>
     requires sentence { is_plain refusal.now.sentence.now ≡ true }
     requires found { is_own_plain refusal.now.found ≡ true }
@@ -84,13 +84,13 @@ fn table_words(table: Option<SetupTable>) -> &'static str
     }
 }
 
-/// A table's place in its array, from 1.
+/// A table's place in its array, counted from 1.
 fn place_item<'a>(table: Option<SetupTable>) -> Item<'a>
     ensures { is_own_plain result ≡ true }
 {
     match table {
         Some(SetupTable::Participant(before) | SetupTable::Symbol(before)) => {
-            // No memory holds as many elements as a number can count.
+            // The sum is never too great, because no memory has room for more elements.
             match (before as u64).checked_add(1) {
                 Some(place) => Item::Number(place),
                 None => Item::Absent,
@@ -138,14 +138,14 @@ fn table_item(table: Option<SetupTable>) -> Item<'static>
 /// The sum of a setup's faults.
 #[derive(Clone, Copy)]
 pub(crate) struct Summary {
-    /// How many there are, and how many of them were reported.
+    /// How many faults there are, and how many of them were reported.
     pub(crate) faults: usize,
     pub(crate) told: usize,
-    /// The one with the least number, by which the setup is refused.
+    /// The fault with the least number, by which the setup is refused.
     pub(crate) least: Option<SetupFault>,
 }
 
-/// Writes how many faults a setup has, the code by which it is refused, and whether some of its faults were only counted.
+/// Writes how many faults a setup has, the code by which it is refused, and whether some faults were only counted.
 pub(crate) fn tell_summary(
     file: &str,
     summary: Summary,

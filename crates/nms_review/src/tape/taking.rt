@@ -1,4 +1,4 @@
-//! The changes that a script takes: `specs/Taken`. The records are served as a script's are, and the answers are dropped.
+//! The changes that a script takes: `specs/Taken`. Its records are served as usual, but the answers are dropped.
 ghost use Rattle.std.specs.Prelude.{◌≡◌, ◌≢◌, ℕ, ◌+◌, ◌≤◌, ◌++◌, List, [], Option, length, option_to_list, slice_get, true, false, Ok, Err, IfOk, OnOk};
 ghost use Rattle.nms_quote.specs.Tape.{Tape};
 ghost use Rattle.nms_lines.specs.Records.{ReadsFrom};
@@ -17,7 +17,7 @@ use nms_sweep::Planner;
 use std::alloc::{AllocError, Global};
 use std::io::Read;
 
-/// A script at work: its machine, the changes sent to it, its planner, the record at hand and the text of its answer.
+/// A script at work. It has its machine, the changes sent to it, its planner, the present record and the text of its answer.
 #[derive(Drop)]
 struct Taking {
     flow: Flow,
@@ -27,10 +27,9 @@ struct Taking {
     answer: Vec<u8>,
 }
 
-/// The changes that a script takes, in order: its tape at its end, published or not. Refused records are skipped, as in the
-/// script.
+/// The changes that a script takes, in order: its tape at its end, published or not. Refused records are skipped, as in the script.
 ///
-/// `ReadFault`, `TooLong` (more than 10,000,000 records) and `NoMemory` leave nothing. There is no other fault.
+/// `ReadFault`, `TooLong` (more than 10,000,000 records) and `NoMemory` give no tape. There is no other fault.
 pub fn taken_by_script<R: Read + Drop>(
     alloc: Global,
     setup: &Setup,
@@ -49,7 +48,7 @@ pub fn taken_by_script<R: Read + Drop>(
     }
 }
 
-/// A script with nothing read.
+/// A script of which nothing has been read.
 fn open(alloc: Global, setup: &Setup) -> Result<Taking, ScriptFault>
     ensures room { IfOk result (λ taking. room_of taking.flow ≡ room_under setup.now) }
     ensures stands { IfOk result (λ taking. IsAfter taking.flow []) }
@@ -68,7 +67,7 @@ fn open(alloc: Global, setup: &Setup) -> Result<Taking, ScriptFault>
     })
 }
 
-/// Serves the records that a reader gives, from the first on.
+/// Serves the records that a reader gives, from the first one.
 fn read_all<R: Read>(
     taking: &mut Taking,
     setup: &Setup,
@@ -143,7 +142,7 @@ fn note_sent(flow: &Flow, sent: &mut Vec<Change>) -> Result<(), AllocError>
     Ok(())
 }
 
-/// The changes taken: the first of those sent.
+/// The changes that were taken: a prefix of those sent.
 fn tape_of(taking: Taking) -> Vec<Change>
     ensures { (at : Standing) → StandsAt taking.flow at → taking.sent.items ≡ changes_in at.sent → result.items ≡ tape_at at }
 {

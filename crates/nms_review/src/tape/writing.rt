@@ -17,8 +17,8 @@ use std::io::{Read, Write};
 
 /// Writes the changes that a script takes as a file of changes: a record each, in order. The script is read first.
 ///
-/// `ReadFault` and `TooLong` leave nothing written. `NoMemory` and `WriteFault` leave a prefix of the text, and nothing
-/// else. The writer is not flushed.
+/// After `ReadFault` or `TooLong` nothing is written. After `NoMemory` or `WriteFault` only a prefix of the text is written.
+/// The writer is not flushed.
 pub fn write_tape<R: Read + Drop, W: Write>(
     alloc: Global,
     setup: &Setup,
@@ -56,7 +56,7 @@ fn write_changes<W: Write>(
     Ok(())
 }
 
-/// Writes the record of a change by way of a buffer.
+/// Writes the record of a change through a buffer.
 fn write_change<W: Write>(
     roster: &Roster,
     change: &Change,

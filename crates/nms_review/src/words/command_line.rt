@@ -4,7 +4,7 @@ use super::subcommand::{KINDS, Sub, Word, WordForm};
 use clap::{Arg, ArgAction, Command};
 use std::alloc::{AllocError, Global};
 
-/// The whole command line.
+/// The complete command line.
 pub(crate) fn review_command<'a>(alloc: Global) -> Result<Command<'a>, AllocError> {
     let mut command = top_command(alloc)?;
     for sub in Sub::ALL {
@@ -34,7 +34,7 @@ fn top_command<'a>(alloc: Global) -> Result<Command<'a>, AllocError> {
         .bin_name("nms_review")
 }
 
-/// A subcommand with its own words and its options.
+/// A subcommand with its own arguments and its options.
 fn sub_command<'a>(alloc: Global, sub: Sub) -> Result<Command<'a>, AllocError> {
     let name: &'a str = sub.name();
     let about: &'a str = sub.about();
@@ -45,7 +45,7 @@ fn sub_command<'a>(alloc: Global, sub: Sub) -> Result<Command<'a>, AllocError> {
     Ok(command)
 }
 
-/// A word or an option of a subcommand.
+/// An argument or an option of a subcommand.
 fn arg_of<'a>(alloc: Global, word: Word) -> Arg<'a> {
     let arg = Arg::new(alloc, word.name).help(word.help);
     match word.form {

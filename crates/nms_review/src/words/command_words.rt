@@ -1,4 +1,4 @@
-//! The words of the command line, read.
+//! Reading the arguments of the command line.
 use super::command_line::review_command;
 use super::given::Words;
 use super::subcommand::{Sub, WordForm};
@@ -7,12 +7,12 @@ use clap::error::ErrorKind;
 use clap::{ArgMatches, Error};
 use std::alloc::{AllocError, Global};
 
-/// What follows the parser's text if an option stands before its subcommand.
+/// The tip that follows the parser's text if an option comes before its subcommand.
 const OPTION_TIP: &str = "
 tip: give options after the subcommand: nms_review stream CHANGES --setup FILE
 ";
 
-/// Reads the words that follow the program's name: a subcommand, its own words and its options.
+/// Reads the arguments that follow the program's name: a subcommand, its own arguments and its options.
 ///
 /// `Parser` has the parser's text: a fault, or the help or the version that was asked for. `NoMemory` may replace any answer.
 pub(crate) fn read_words<'a>(alloc: Global, words: &'a [&'a str]) -> Result<Words<'a>, WordsFault> {
@@ -22,7 +22,7 @@ pub(crate) fn read_words<'a>(alloc: Global, words: &'a [&'a str]) -> Result<Word
     }
 }
 
-/// The parser's text, or that memory ran out.
+/// The parser's text, or that it was out of memory.
 fn fault_of(alloc: Global, words: &[&str], error: &Error) -> WordsFault {
     let kind = error.kind();
     if kind == ErrorKind::OutOfMemory {
@@ -37,7 +37,7 @@ fn fault_of(alloc: Global, words: &[&str], error: &Error) -> WordsFault {
     }
 }
 
-/// The parser's text, with a tip for an option that stands before its subcommand.
+/// The parser's text, with a tip for an option that comes before its subcommand.
 fn text_of(alloc: Global, words: &[&str], error: &Error) -> Result<String, AllocError> {
     match words.first() {
         Some(word) if is_option(*word) => format!(in alloc; "{error}{OPTION_TIP}"),
@@ -45,12 +45,12 @@ fn text_of(alloc: Global, words: &[&str], error: &Error) -> Result<String, Alloc
     }
 }
 
-/// Whether a word is an option of a subcommand.
+/// Whether an argument is an option of a subcommand.
 fn is_option(word: &str) -> bool {
     word == "--json" || word == "--setup" || word.starts_with("--setup=")
 }
 
-/// The words that the matches hold. The parser takes none without a subcommand.
+/// The arguments that the matches hold. The parser takes none without a subcommand.
 fn words_in<'a>(alloc: Global, matches: &ArgMatches<'a>) -> Result<Words<'a>, AllocError> {
     let Some((name, inner)) = matches.subcommand() else {
         return Err(AllocError);
@@ -77,7 +77,7 @@ fn words_in<'a>(alloc: Global, matches: &ArgMatches<'a>) -> Result<Words<'a>, Al
     Ok(words)
 }
 
-/// Whether a word of this form is an option, and not one of the subcommand's own words.
+/// Whether an argument of this form is an option, and not one of the subcommand's own arguments.
 fn is_option_form(form: WordForm) -> bool {
     match form {
         WordForm::Needed

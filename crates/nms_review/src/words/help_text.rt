@@ -9,7 +9,7 @@ pub(crate) const ABOUT: &str =
 /// The end of the help.
 pub(crate) const AFTER_HELP: &str = "Each subcommand also takes:
       --setup <FILE>  The file of the setup, in place of the built-in one (but for when)
-      --json          Prints one JSON object a line (but for tape, opening, draw, import and compare)
+      --json          Prints one JSON object a line (but for tape, opening, draw and import)
 
 Exit statuses:
   0  done, and nothing was refused or doubted; or help or the version was asked for

@@ -1,45 +1,44 @@
-//! The subcommands, with their own words and options.
+//! The subcommands, with their own arguments and options.
 
-/// A request to the program, each a subcommand of the command line.
+/// A request to the program. Each is a subcommand of the command line.
 #[derive(Clone, Copy)]
 pub(crate) enum Sub {
-    /// Reports the place of the fault in each refused record of a file. Its own words are `KIND` and `FILE`.
+    /// Reports the place of the fault in each refused record of a file. Its own arguments are `KIND` and `FILE`.
     Explain,
-    /// Writes the changes that a script takes, as a file of changes. Its own word is `SCRIPT`.
+    /// Writes the changes that a script takes, as a file of changes. Its own argument is `SCRIPT`.
     Tape,
-    /// Shows any version. Its own words are `VERSION` and `CHANGES`, and `SYM` may stand after them.
+    /// Shows any version. Its own arguments are `VERSION` and `CHANGES`, and `SYM` may follow them.
     At,
-    /// Writes the opening changes of a version. Its own words are `VERSION` and `CHANGES`.
+    /// Writes the opening changes of a version. Its own arguments are `VERSION` and `CHANGES`.
     Opening,
-    /// Writes a line when a best bid, a best offer or a market changes. Its own word is `CHANGES`, and `SYM` may stand after
-    /// it.
+    /// Writes a line when a best bid, a best offer or a market changes. Its own argument is `CHANGES`, and `SYM` may follow it.
     Stream,
-    /// Judges every plan in the output of a script or a live run. Its own words are `CHANGES` and `ANSWERS`.
+    /// Judges every plan in the output of a script or a live run. Its own arguments are `CHANGES` and `ANSWERS`.
     Check,
-    /// Explains why a plan is as it is. Its own words are `CHANGES` and `PLAN`.
+    /// Explains why a plan is as it is. Its own arguments are `CHANGES` and `PLAN`.
     Why,
-    /// Draws a symbol's day. Its own words are `CHANGES` and `SYM`.
+    /// Draws a symbol's day. Its own arguments are `CHANGES` and `SYM`.
     Draw,
-    /// Makes changes of a vendor's files. Its own words are `MAP` and one or more of `FILE`.
+    /// Makes changes from a vendor's files. Its own arguments are `MAP` and one or more of `FILE`.
     Import,
-    /// Finds versions by their times, or the time of a version. Its own words are `TIMES` and any number of `TIME`.
+    /// Finds versions by their times, or the time of a version. Its own arguments are `TIMES` and any number of `TIME`.
     When,
-    /// Judges a file of executions. Its own words are `CHANGES` and `EXECUTIONS`.
+    /// Judges a file of executions. Its own arguments are `CHANGES` and `EXECUTIONS`.
     Trades,
-    /// Compares a vendor's national bests with those of a file of changes. Its own words are `CHANGES` and `NBBO`.
+    /// Compares a vendor's national bests with those of a file of changes. Its own arguments are `CHANGES` and `NBBO`.
     Compare,
 }
 
 /// What is explained.
 #[derive(Clone, Copy)]
 pub(crate) enum Kind {
-    /// A file of records.
+    /// A file whose records are explained.
     Records(RecordKind),
-    /// A file that is read whole.
+    /// A file that is read as one text.
     Text(TextKind),
     /// A file of executions.
     Executions,
-    /// A code, in the place of the file.
+    /// A code, given in the place of a file.
     Code,
 }
 
@@ -56,7 +55,7 @@ pub(crate) enum RecordKind {
     Feed,
 }
 
-/// The kinds of files that are read whole.
+/// The kinds of files that are read as one text.
 #[derive(Clone, Copy)]
 pub(crate) enum TextKind {
     /// The text of a plan and its certificate.
@@ -69,7 +68,7 @@ pub(crate) enum TextKind {
     Times,
 }
 
-/// A word or an option of a subcommand, with its explanation in the help.
+/// An argument or an option of a subcommand, with its explanation in the help.
 #[derive(Clone, Copy)]
 pub(crate) struct Word {
     pub(crate) name: &'static str,
@@ -77,20 +76,20 @@ pub(crate) struct Word {
     pub(crate) form: WordForm,
 }
 
-/// The form of a word in the command line.
+/// The form of an argument in the command line.
 #[derive(Clone, Copy)]
 pub(crate) enum WordForm {
-    /// A word of the subcommand's own that it needs.
+    /// An argument that the subcommand needs.
     Needed,
-    /// The kind of a file, which it needs.
+    /// The kind of a file, which the subcommand needs.
     OfKinds,
-    /// The last of its own words, which may be repeated, and which it needs once.
+    /// The last argument of the subcommand. It may be repeated, and is needed once.
     Several,
-    /// A word that may stand after those.
+    /// An argument that may follow the needed ones.
     Optional,
-    /// The last of its own words, which may be repeated, or left out.
+    /// The last argument of the subcommand. It may be repeated, or left out.
     AnyNumber,
-    /// An option with a value, and the name of the value in the help.
+    /// An option with a value. It has the name of the value in the help.
     Valued(&'static str),
     /// An option with a value that the subcommand needs.
     NeededValue(&'static str),
@@ -98,7 +97,7 @@ pub(crate) enum WordForm {
     Flag,
 }
 
-/// The words that name a kind of file.
+/// The arguments that name a kind of file.
 pub(crate) static KINDS: [&'static str; 10] = [
     "script",
     "changes",
@@ -295,7 +294,7 @@ static DRAW: [Word; 11] = [
     SETUP,
 ];
 
-static IMPORT: [Word; 6] = [
+static IMPORT: [Word; 8] = [
     Word {
         name: "MAP",
         help: "The file of the mapping: how the vendor's files are laid out",
@@ -320,6 +319,16 @@ static IMPORT: [Word; 6] = [
         name: "shards",
         help: "Writes NAME.1.changes, NAME.2.changes and so on, each with at most 1,000 symbols and its setup",
         form: WordForm::Flag,
+    },
+    Word {
+        name: "add-symbols",
+        help: "Also writes NAME.toml, the setup with the symbols that it lacks, each with the round lot 100",
+        form: WordForm::Flag,
+    },
+    Word {
+        name: "refused",
+        help: "Writes every refused row to FILE, as one JSON object a line, in place of showing the first 100",
+        form: WordForm::Valued("FILE"),
     },
     SETUP,
 ];
@@ -354,7 +363,7 @@ static WHEN: [Word; 7] = [
     JSON,
 ];
 
-static TRADES: [Word; 11] = [
+static TRADES: [Word; 13] = [
     CHANGES,
     Word {
         name: "EXECUTIONS",
@@ -364,6 +373,16 @@ static TRADES: [Word; 11] = [
     Word {
         name: "table",
         help: "Prints counts and sums in place of a line for each execution",
+        form: WordForm::Flag,
+    },
+    Word {
+        name: "quality",
+        help: "Prints sums of spreads and price improvement in place of a line for each execution",
+        form: WordForm::Flag,
+    },
+    Word {
+        name: "columns",
+        help: "Prints one line of columns for each record, as CSV with a header",
         form: WordForm::Flag,
     },
     Word {
@@ -388,7 +407,7 @@ static TRADES: [Word; 11] = [
     JSON,
 ];
 
-static COMPARE: [Word; 5] = [
+static COMPARE: [Word; 7] = [
     CHANGES,
     Word {
         name: "NBBO",
@@ -405,11 +424,17 @@ static COMPARE: [Word; 5] = [
         help: "The file of the changes' times, as `import` writes it",
         form: WordForm::NeededValue("TIMES"),
     },
+    Word {
+        name: "refused",
+        help: "Writes every row that differs or is refused to FILE, as one JSON object a line, in place of showing the first 100",
+        form: WordForm::Valued("FILE"),
+    },
     SETUP,
+    JSON,
 ];
 
 impl Sub {
-    /// Each of them.
+    /// All subcommands.
     pub(crate) const ALL: [Sub; 12] = [
         Sub::Explain,
         Sub::Tape,
@@ -425,7 +450,7 @@ impl Sub {
         Sub::Compare,
     ];
 
-    /// The word of the subcommand.
+    /// The name of the subcommand.
     pub(crate) fn name(self) -> &'static str {
         match self {
             Sub::Explain => "explain",
@@ -443,7 +468,7 @@ impl Sub {
         }
     }
 
-    /// What the help says of it.
+    /// What the help says about it.
     pub(crate) fn about(self) -> &'static str {
         match self {
             Sub::Explain =>
@@ -464,7 +489,7 @@ impl Sub {
         }
     }
 
-    /// Its own words in order, and its options.
+    /// Its own arguments in order, and its options.
     pub(crate) fn words(self) -> &'static [Word] {
         match self {
             Sub::Explain => EXPLAIN.as_slice(),
@@ -482,14 +507,14 @@ impl Sub {
         }
     }
 
-    /// The subcommand of that name.
+    /// The subcommand with that name.
     pub(crate) fn named(name: &str) -> Option<Sub> {
         Sub::ALL.iter().copied().find(|sub| sub.name() == name)
     }
 }
 
 impl Kind {
-    /// The kind that a word names.
+    /// The kind that an argument names.
     pub(crate) fn named(word: &str) -> Option<Kind> {
         match word {
             "script" => Some(Kind::Records(RecordKind::Script)),
@@ -506,7 +531,7 @@ impl Kind {
         }
     }
 
-    /// Whether it is explained under a setup.
+    /// Whether the kind is explained under a setup.
     pub(crate) fn is_under_setup(self) -> bool {
         match self {
             Kind::Records(_) | Kind::Text(TextKind::Plan) | Kind::Executions => true,

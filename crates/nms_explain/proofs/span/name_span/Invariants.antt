@@ -1,4 +1,4 @@
--- `name_span`: no more names ended than bytes stand before this one.
+-- `name_span`: no more names ended than bytes come before this one.
 use Rattle.std.proofs.Common.{◌≤◌}
 use Rattle.nms_explain.proofs.span.name_span.Given as goal
 

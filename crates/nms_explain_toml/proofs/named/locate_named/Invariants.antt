@@ -1,4 +1,4 @@
--- `locate_named`: a line begins in the text, and no more brackets are open than bytes stand before it. Each line ends after its
+-- `locate_named`: a line begins in the text, and no more brackets are open than bytes are before it. Each line ends after its
 -- start.
 use Rattle.std.proofs.Common.{length, ◌-◌, ◌≤◌}
 use Rattle.nms_explain_toml.proofs.named.locate_named.Given as goal

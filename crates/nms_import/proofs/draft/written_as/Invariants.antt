@@ -1,4 +1,4 @@
--- `written_as`: no name so far stands for the key, so those that are left decide.
+-- `written_as`: no name so far is for the key, so those that are left decide.
 use Rattle.std.proofs.Common.{◌≡◌, drop, map}
 use Rattle.nms_import.specs.Drafts.{name_of, written_as}
 use Rattle.nms_import.proofs.draft.written_as.Given as goal

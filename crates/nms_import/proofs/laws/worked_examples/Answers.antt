@@ -12,4 +12,17 @@ returns c = record {
   a_date_and_a_time = refl;
   over_midnight = refl;
   no_such_hour = refl;
+  an_offset_is_taken_off = refl;
+  in_the_zone_of_its_offset = refl;
+  a_time_with_colons = refl;
+  milliseconds_since_1970 = refl;
+  in_new_york_by_name = refl;
+  in_summer_by_name = refl;
+  before_the_change = refl;
+  after_the_change = refl;
+  no_date_no_zone = refl;
+  a_bit_of_a_number = refl;
+  another_bit = refl;
+  zeros_after_four_decimals = refl;
+  a_size_with_a_point = refl;
 }

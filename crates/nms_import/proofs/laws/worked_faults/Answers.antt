@@ -9,5 +9,7 @@ returns c = record {
   a_mapping_without_fault = refl;
   a_misspelt_key = refl;
   the_key_that_was_meant = refl;
+  ask_is_offer = refl;
+  ask_and_offer = refl;
   a_letter_in_two_lists = refl;
 }

@@ -3,6 +3,6 @@ use Rattle.std.proofs.Common.{◌≡◌, drop}
 use Rattle.nms_import.specs.Mapping.{replaced}
 use Rattle.nms_import.proofs.row.replaced.Given as goal
 
--- what stands in its place is found among the pairs that are left
+-- the byte that replaces it is found among the pairs that are left
 abbrev pub invariant-loop-pair : goal.invariant-loop-pair
 invariant-loop-pair l = replaced (drop l.pair-index l.pairs) l.c ≡ replaced l.pairs l.c

@@ -1,4 +1,4 @@
--- `note_all`: each symbol so far is noted, and the rest stands as it did.
+-- `note_all`: each symbol so far is noted, and the rest is as it was.
 use Rattle.nms_board.specs.Shown.{seen_on}
 use Rattle.nms_trades.specs.Bests.{limits_of}
 use Rattle.nms_trades.specs.Track.{AreNoted}

@@ -6,8 +6,8 @@ use Rattle.nms_trades.specs.Answers.{AreNumbered}
 use Rattle.nms_trades.specs.Reading.{IsInWindow, IsOn}
 use Rattle.nms_trades.proofs.execution_file.take_records.Given as goal
 
--- the executions so far are of the roster and of a number of changes, with their versions in their windows; each record so far has
--- its number; and as many records of the file were read
+-- the executions so far are of the roster and of a number of changes, with their versions in their windows; each record so far
+-- has its number; and this number of records of the file was read
 abbrev pub invariant-loop-number : goal.invariant-loop-number
 invariant-loop-number g l = record {
   on : All (IsOn l.roster l.clock.changes) l.records.executions.items;

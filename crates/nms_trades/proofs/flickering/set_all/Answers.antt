@@ -1,4 +1,4 @@
--- `set_all`: one execution more has all that is found of it, by `answered_one`; at the end all have, by `answered_end`.
+-- `set_all`: for one more execution all is found, by `answered_one`; at the end it is for all, by `answered_end`.
 use Rattle.std.proofs.Common.{◌∙◌, arith}
 use Rattle.std.proofs.lemmas.List.{length-set}
 use Rattle.nms_stream.specs.Tapes.{sizes_in}

@@ -1,4 +1,4 @@
--- `set_all`: the executions so far have all that is found of them, and the rest stands as it did.
+-- `set_all`: all is found about the executions so far, and the rest is as it was.
 use Rattle.std.proofs.Common.{ℕ, ◌≡◌, ◌≤◌, length, slice_get}
 use Rattle.nms_stream.specs.Tapes.{sizes_in}
 use Rattle.nms_trades.specs.Found.{IsJudged}

@@ -1,4 +1,4 @@
--- `no_answers`: as many places as turns of the loop.
+-- `no_answers`: one place for each turn of the loop.
 use Rattle.std.proofs.Common.{◌≡◌, length}
 use Rattle.nms_trades.proofs.judging.no_answers.Given as goal
 

@@ -1,4 +1,4 @@
--- `best_protected`: the first one stands among the rows that are left.
+-- `best_protected`: the first one is among the rows that are left.
 use Rattle.std.proofs.Common.{◌≡◌, drop}
 use Rattle.nms_trades.specs.Judged.{best_protected}
 use Rattle.nms_trades.proofs.limits.best_protected.Given as goal

@@ -1,4 +1,4 @@
--- `note_parts`: each participant so far is noted in the symbol, and the rest stands as it did.
+-- `note_parts`: each participant so far is noted in the symbol, and the rest is as it was.
 use Rattle.nms_board.specs.Cells.{place_of}
 use Rattle.nms_trades.specs.Parts.{part_held}
 use Rattle.nms_trades.specs.Track.{AreNoted}

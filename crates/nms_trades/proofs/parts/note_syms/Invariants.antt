@@ -1,4 +1,4 @@
--- `note_syms`: the participant is noted in each symbol so far, and the rest stands as it did.
+-- `note_syms`: the participant is noted in each symbol so far, and the rest is as it was.
 use Rattle.nms_board.specs.Cells.{place_of}
 use Rattle.nms_trades.specs.Parts.{part_held}
 use Rattle.nms_trades.specs.Track.{AreNoted}

@@ -1,4 +1,4 @@
--- `answer_all`: the executions so far have their answers, and the rest stands as it did.
+-- `answer_all`: the executions so far have their answers, and the rest is as it was.
 use Rattle.std.proofs.Common.{ℕ, ◌≡◌, ◌≤◌, length, slice_get}
 use Rattle.nms_stream.specs.Tapes.{sizes_in}
 use Rattle.nms_trades.specs.Found.{IsStanding}

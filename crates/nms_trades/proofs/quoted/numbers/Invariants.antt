@@ -1,4 +1,4 @@
--- `numbers`: the number so often.
+-- `numbers`: the number once for each turn.
 use Rattle.std.proofs.Common.{◌≡◌, replicate}
 use Rattle.nms_trades.proofs.quoted.numbers.Given as goal
 

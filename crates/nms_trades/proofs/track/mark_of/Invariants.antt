@@ -1,4 +1,4 @@
--- `mark_of`: the mark stands from `low` on and before `high`.
+-- `mark_of`: the mark is at `low` or later and before `high`.
 use Rattle.std.proofs.Common.{◌<◌, ◌≤◌, ◌-◌, length}
 use Rattle.nms_trades.specs.Track.{mark_at}
 use Rattle.nms_trades.proofs.track.mark_of.Given as goal

@@ -1,4 +1,4 @@
--- `note_at`: the track at the place is noted, by `noted_there`, and each other one stands.
+-- `note_at`: the track at the place is noted, by `noted_there`, and each other one stays.
 use Rattle.std.proofs.Common.{sym}
 use Rattle.nms_board.proofs.Offered.{slice_get-set_other}
 use Rattle.nms_trades.proofs.TrackFacts.{noted_there}

@@ -2,7 +2,7 @@
 use Rattle.std.proofs.Common.{◌∙◌, List, Option, subst}
 use Rattle.std.specs.Io.KnownBytes.{Appends}
 use Rattle.nms_stream.specs.Tapes.{sizes_in}
-use Rattle.nms_trades.specs.Answers.{answers_text}
+use Rattle.nms_trades.specs.Files.{text_in}
 use Rattle.nms_trades.specs.Found.{IsJudged}
 use Rattle.nms_trades.specs.Turns.{AreAnswered}
 use Rattle.nms_trades.specs.declared.execution.Execution.{Execution}
@@ -28,6 +28,6 @@ returns-in-Ok-clause-judged g c =
       };
       ends = c.ending.ensures;
       written = λ csv. subst (λ (xs : List (Option Finding)). Appends (g.W.Write.contents c.args.answers.now)
-          (g.W.Write.contents c.write_findings.new.answers) (answers_text tape.roster.now executions refused xs))
+          (g.W.Write.contents c.write_findings.new.answers) (text_in c.args.layout tape.roster.now executions refused xs))
           c.deref-in-Ok.ensures.value (c.in_ok-write_findings-in-Ok.ensures.written csv);
     }

@@ -1,4 +1,4 @@
--- `after_line`: from here on the rest of the line leads where the whole line does; no more brackets opened than bytes were read.
+-- `after_line`: from here on the rest of the line leads where the complete line does; no more brackets opened than bytes were read.
 use Rattle.std.proofs.Common.{◌≡◌, ◌≤◌, ◌+◌, drop}
 use Rattle.nms_explain_toml.specs.Nesting.{after_bytes}
 use Rattle.nms_explain_toml.proofs.nest.Nest.after_line.Given as goal

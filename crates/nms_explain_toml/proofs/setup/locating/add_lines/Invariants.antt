@@ -1,4 +1,4 @@
--- `add_lines`: a line begins in the text; no more brackets are open than bytes stand before it, and no more headers stand there.
+-- `add_lines`: a line begins in the text; no more brackets are open than bytes are before it, and no more headers are there.
 -- Each line ends after its start.
 use Rattle.std.proofs.Common.{length, ◌-◌, ◌≤◌}
 use Rattle.nms_explain_toml.proofs.setup.locating.add_lines.Given as goal

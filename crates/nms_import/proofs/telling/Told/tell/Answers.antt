@@ -1,4 +1,4 @@
--- `tell`: what the writer took of the line is a prefix of a safe text.
+-- `tell`: the part of the line that the writer took is a prefix of a safe text.
 use Rattle.nms_show.specs.Safe.{IsSafe, nothing}
 use Rattle.nms_show.proofs.Offered.{adds_no_part}
 use Rattle.nms_import.proofs.telling.Told.tell.Goals as goal
@@ -8,3 +8,6 @@ returns-then-self-eq0-clause-safe g c = adds_no_part IsSafe _ nothing
 
 pub returns-clause-safe : goal.returns-clause-safe
 returns-clause-safe g c = c.show_row.ensures.safe c.outcome_of.ensures c.sentence_of.ensures
+
+pub returns-then-is_json-clause-safe : goal.returns-then-is_json-clause-safe
+returns-then-is_json-clause-safe g c = adds_no_part IsSafe _ nothing

@@ -9,3 +9,6 @@ returns-then-self-eq0-clause-safe g c = adds_no_part IsSafe _ nothing
 
 pub returns-clause-safe : goal.returns-clause-safe
 returns-clause-safe g c = c.show_row.ensures.safe c.outcome_of.ensures refl
+
+pub returns-then-is_json-clause-safe : goal.returns-then-is_json-clause-safe
+returns-then-is_json-clause-safe g c = adds_no_part IsSafe _ nothing

@@ -1,0 +1,169 @@
+//! How many rows had each finding, by symbol and by hour.
+use crate::compare_fault::CompareFault;
+use crate::finding::Finding;
+use nms_quote::{Roster, Sym};
+use nms_show::{Form, Item, write_line, write_object};
+use std::alloc::{AllocError, Global};
+use std::io::Write;
+
+/// The hours of a day.
+const HOURS: usize = 24;
+/// How many values the minutes, seconds and nanoseconds of a time `HHMMSSnnnnnnnnn` have.
+const HOUR: u64 = 10_000_000_000_000;
+
+/// How many rows had each finding.
+#[derive(Clone, Copy)]
+struct Found {
+    equal: u64,
+    other_price: u64,
+    other_size: u64,
+    other_venue: u64,
+    no_counterpart: u64,
+}
+
+/// How many rows had each finding, by symbol and by hour.
+#[derive(Drop)]
+pub struct Sums {
+    alloc: Global,
+    /// By the symbol's place on the roster.
+    symbols: Vec<Found>,
+    hours: Vec<Found>,
+}
+
+impl Found {
+    /// With one row more. `None`: there are too many.
+    fn with(mut self, finding: Finding) -> Option<Found> {
+        match finding {
+            Finding::Equal => self.equal = self.equal.checked_add(1)?,
+            Finding::OtherPrice => self.other_price = self.other_price.checked_add(1)?,
+            Finding::OtherSize => self.other_size = self.other_size.checked_add(1)?,
+            Finding::OtherVenue => self.other_venue = self.other_venue.checked_add(1)?,
+            Finding::NoCounterpart => self.no_counterpart = self.no_counterpart.checked_add(1)?,
+        }
+        Some(self)
+    }
+
+    /// Whether a row differs.
+    fn differs(&self) -> bool {
+        self.other_price > 0
+            || self.other_size > 0
+            || self.other_venue > 0
+            || self.no_counterpart > 0
+    }
+}
+
+impl Sums {
+    /// Of no rows, with room for n symbols.
+    pub(crate) fn new(alloc: Global, symbols: usize) -> Result<Sums, AllocError> {
+        let none = Found {
+            equal: 0,
+            other_price: 0,
+            other_size: 0,
+            other_venue: 0,
+            no_counterpart: 0,
+        };
+        let mut sums = Sums {
+            alloc,
+            symbols: Vec::new(alloc),
+            hours: Vec::new(alloc),
+        };
+        sums.symbols.resize(symbols, none)?;
+        sums.hours.resize(HOURS, none)?;
+        Ok(sums)
+    }
+
+    /// Counts a row of a symbol at a time.
+    pub(crate) fn count(
+        &mut self,
+        sym: Sym,
+        time: u64,
+        finding: Finding,
+    ) -> Result<(), CompareFault> {
+        count_at(&mut self.symbols, usize::from(sym.get()), finding)?;
+        count_at(&mut self.hours, (time / HOUR) as usize, finding)
+    }
+
+    /// Writes a line for each symbol and for each hour of which a row differs.
+    pub fn write<W: Write>(
+        &self,
+        out: &mut W,
+        roster: &Roster,
+        form: Form,
+    ) -> Result<(), CompareFault> {
+        for place in 0..roster.syms() as u16 {
+            let sym = Sym::new(place).unwrap();
+            let place = usize::from(place);
+            if place < self.symbols.len() && self.symbols[place].differs() {
+                let name = Item::Text(roster.sym_name(sym));
+                write_found(self.alloc, out, form, "symbol", name, &self.symbols[place])?;
+            }
+        }
+        for hour in 0..self.hours.len() {
+            let found = self.hours[hour];
+            if found.differs() {
+                write_found(
+                    self.alloc,
+                    out,
+                    form,
+                    "hour",
+                    Item::Number(hour as u64),
+                    &found,
+                )?;
+            }
+        }
+        Ok(())
+    }
+}
+
+/// Counts a row at a place.
+fn count_at(all: &mut [Found], place: usize, finding: Finding) -> Result<(), CompareFault> {
+    if place < all.len() {
+        let Some(found) = all[place].with(finding) else {
+            return Err(CompareFault::TooLong);
+        };
+        all[place] = found;
+    }
+    Ok(())
+}
+
+/// Writes the counts of a symbol or an hour.
+fn write_found<'x, W: Write>(
+    alloc: Global,
+    out: &mut W,
+    form: Form,
+    what: &'static str,
+    of: Item<'x>,
+    found: &Found,
+) -> Result<(), CompareFault> {
+    if form.is_json() {
+        let members = [
+            ("what", Item::Text(what)),
+            ("of", of),
+            ("equal", Item::Number(found.equal)),
+            ("other_price", Item::Number(found.other_price)),
+            ("other_size", Item::Number(found.other_size)),
+            ("other_venue", Item::Number(found.other_venue)),
+            ("no_counterpart", Item::Number(found.no_counterpart)),
+        ];
+        write_object(alloc, out, &members)?;
+        return Ok(());
+    }
+    let items = [
+        Item::Text(what),
+        Item::Text(" "),
+        of,
+        Item::Text(": "),
+        Item::Number(found.equal),
+        Item::Text(" equal, "),
+        Item::Number(found.other_price),
+        Item::Text(" other price, "),
+        Item::Number(found.other_size),
+        Item::Text(" other size, "),
+        Item::Number(found.other_venue),
+        Item::Text(" other venue, "),
+        Item::Number(found.no_counterpart),
+        Item::Text(" no counterpart"),
+    ];
+    write_line(out, form, &items)?;
+    Ok(())
+}

@@ -1,0 +1,83 @@
+//! Where the rows of an import are shown that it refuses: on standard error, or in the file that `--refused` names.
+use crate::answers::Answers;
+use crate::call::{Call, Host};
+use crate::fault::{About, Fault};
+use crate::files::create_file;
+use crate::notices::show_kept;
+use crate::request::Import;
+use nms_import::{Meanings, Telling};
+use nms_show::Form;
+use std::io;
+use std::io::Write;
+
+/// The option that names the file.
+const OPTION: &str = "refused";
+
+/// Where they are shown.
+#[derive(Drop)]
+pub(crate) enum RefusedRows<F> {
+    /// Kept for standard error.
+    Kept(Vec<u8>),
+    /// In a file, and whether it took all of them.
+    Filed(Answers<F>, bool),
+}
+
+/// Where the call shows them, and how.
+pub(crate) fn refused_rows<T: Host>(
+    call: &Call<'_, T>,
+    import: &Import<'_>,
+    meanings: &Meanings,
+) -> Result<(Telling, RefusedRows<T::File>), Fault> {
+    let Some(file) = import.refused else {
+        let telling = Telling::new(call.alloc(), Form::Text { colours: false }, meanings);
+        return Ok((telling, RefusedRows::Kept(Vec::new(call.alloc()))));
+    };
+    let telling = Telling::new(call.alloc(), Form::Json, meanings);
+    let file = create_file(call, file.name, file.about)?;
+    match Answers::new(call.alloc(), file, false) {
+        Ok(answers) => Ok((telling, RefusedRows::Filed(answers, true))),
+        Err(_) => Err(Fault::no_memory()),
+    }
+}
+
+impl<F: Write> RefusedRows<F> {
+    /// Shows what was kept for standard error.
+    pub(crate) fn show<T: Host>(&mut self, call: &Call<'_, T>) {
+        if let RefusedRows::Kept(text) = self {
+            show_kept(call, text);
+        }
+    }
+
+    /// Writes out what is kept back of the file. E2 comes if it did not take all rows.
+    pub(crate) fn finish(&mut self) -> Result<(), Fault> {
+        match self {
+            RefusedRows::Kept(_) => Ok(()),
+            RefusedRows::Filed(answers, whole) => match answers.flush() {
+                Ok(()) if *whole => Ok(()),
+                Ok(()) | Err(_) => Err(Fault::unwritten(About::Value(OPTION))),
+            },
+        }
+    }
+}
+
+impl<F: Write> Write for RefusedRows<F> {
+    fn write(&mut self, bytes: &[u8]) -> io::Result<usize> {
+        match self {
+            RefusedRows::Kept(text) => text.write(bytes),
+            RefusedRows::Filed(answers, whole) => match answers.write(bytes) {
+                Ok(count) => Ok(count),
+                Err(error) => {
+                    *whole = false;
+                    Err(error)
+                }
+            },
+        }
+    }
+
+    fn flush(&mut self) -> io::Result<()> {
+        match self {
+            RefusedRows::Kept(text) => text.flush(),
+            RefusedRows::Filed(answers, _) => answers.flush(),
+        }
+    }
+}
