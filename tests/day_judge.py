@@ -3,12 +3,13 @@
 
     tests/day_judge.py PROGRAM      PROGRAM is nms_review
 
-The day is run by two jobs and by one, its parts are set beside one tape of all of them, and a torn file is mended. Trades are
-judged on it, whether symbols are cut by time or not. The rows
+The day is run by two jobs and by one, its parts are compared with one tape of all of them, a torn file is repaired, and jobs are killed.
+Trades are judged on it, whether symbols are cut by time or not. The rows
 that `compare` gets are those of `stream`, some of them altered; each alteration must be found, and nothing else. A line
 for each difference, and last `N passed, M failed`; status 1 at a difference.
 """
 import gzip
+import json
 import os
 import random
 import re
@@ -57,14 +58,14 @@ def real_day(program):
         must(len(lines) > 1000 and [it[0] for it in lines] == sorted(it[0] for it in lines), f"{len(lines)} lines, or not by time")
         must(lines == sorted(lines, key=lambda it: (it[0], it[1], int(it[2]))), "lines of one time are not by letter and version")
         for shard in ("A.1", "B.1", "C.1"):
-            with open(os.path.join(room, "two", f"{shard}.times"), encoding="ascii") as file:
+            with open(os.path.join(room, "two", shard[0], f"{shard}.times"), encoding="ascii") as file:
                 times = file.read().split()
             must(all(it[0] == times[int(it[2]) - 1] for it in lines if it[1] == shard), f"{shard}: a line has not its version's time")
-        # The whole: all letters in one tape, under one setup. A line but for its time, its letter and its version.
+        # All letters in one tape, under one setup. A line without its time, its letter and its version.
         out = os.path.join(room, "whole")
         setup, text = f"{out}.toml", ""
         for letter in "ABC":
-            with open(os.path.join(room, "two", f"{letter}.1.toml"), encoding="utf-8") as file:
+            with open(os.path.join(room, "two", letter, f"{letter}.1.toml"), encoding="utf-8") as file:
                 own = file.read()
             text += own if letter == "A" else own[own.index("[[symbol]]"):]
         with open(setup, "w", encoding="utf-8") as file:
@@ -90,7 +91,7 @@ def real_day(program):
         for symbol in {it[0] for it in whole}:
             must([it for it in whole if it[0] == symbol] == [it[3:] for it in by_shard(cut) if it[3] == symbol], f"{symbol}: a cut shows other rows")
         must(len(cut) == len(whole), f"{len(cut)} lines of the cut day, and not {len(whole)}")
-        # A file that is no gzip: the others are done, and nothing is merged. Once it is mended the rest is done.
+        # A file that is no gzip: the others are done, and nothing is merged. Once it is repaired the rest is done.
         path = f"{names[1]}.gz"
         with open(path, "rb") as file:
             right = file.read()
@@ -98,10 +99,70 @@ def real_day(program):
             file.write(right[:1000])
         day("torn", "2", 1)
         at = os.path.join(room, "torn")
-        must(sorted(it for it in os.listdir(at) if it.endswith((".day", ".csv"))) == ["A.day", "C.day"], f"{sorted(os.listdir(at))}")
+        must(sorted(os.listdir(at)) == ["A", "C"], f"{sorted(os.listdir(at))}")
         with open(path, "wb") as file:
             file.write(right)
         must(day("torn", "2") == day("two", "2"), "what was left is not what was missing")
+
+
+# Stands in for the program. At call `at` of a job it kills the job, once.
+KILLER = r"""#!/usr/bin/env bash
+room=$(dirname "$0")
+echo >> "$room/calls"
+[ "$(wc -l < "$room/calls")" != "$(cat "$room/at")" ] || kill -9 $PPID
+exec "$(cat "$room/program")" "$@"
+"""
+
+
+def jobs_that_die(program):
+    """A job is killed at each of its calls of the program, and done again: each time a file is complete or is not there. Two jobs
+    do one file at once, and what another mapping made is not taken for this day's."""
+    place = os.path.join(EXAMPLES, "real_day")
+    with tempfile.TemporaryDirectory(prefix="nms-") as room:
+        env = dict(os.environ, NMS_REVIEW=program, LIMIT="500")
+        called(sys.executable, [os.path.join(place, "make_day.py"), room, "1200", "A", "3"], check=True)
+        file = os.path.join(room, "SPLITS_US_ALL_BBO_A_20240102.gz")
+
+        def job(out, *more, path=file):
+            return called("bash", [os.path.join(place, "job.sh"), path, os.path.join(room, out)], capture_output=True, env={**env, **dict(more)})
+
+        def files(out):
+            """The letter's files with their bytes, None if the letter is not there; that is all there is."""
+            must(sorted(os.listdir(os.path.join(room, out))) in (["A"], []), f"{out}: {sorted(os.listdir(os.path.join(room, out)))}")
+            found, at = {}, os.path.join(room, out, "A")
+            for name in os.listdir(at) if os.path.exists(at) else ():
+                with open(os.path.join(at, name), "rb") as one:
+                    found[name] = one.read()
+            return found or None
+        must(job("right").returncode == 0, "a job")
+        right = files("right")
+        must(len(right) > 12, f"{sorted(right)}")
+        for name, text in (("killer", KILLER), ("program", program)):
+            with open(os.path.join(room, name), "w", encoding="utf-8") as one:
+                one.write(text)
+        os.chmod(os.path.join(room, "killer"), 0o755)
+        # The version, the import, and a stream for each shard. The job's checksum is of the version.
+        killer, calls = ("NMS_REVIEW", os.path.join(room, "killer")), 2 + sum(it.endswith(".changes") for it in right)
+        for at in range(1, calls + 1):
+            for name, text in (("at", str(at)), ("calls", "")):
+                with open(os.path.join(room, name), "w", encoding="ascii") as one:
+                    one.write(text)
+            out = f"killed{at}"
+            must(job(out, killer).returncode != 0, f"a job that is killed at call {at} ends well")
+            must(not os.path.exists(os.path.join(room, out, "A")), f"killed at call {at}: a part of a letter is there")
+            must(job(out, killer).returncode == 0 and files(out) == right, f"after call {at} the job makes other files")
+        both = [subprocess.Popen(["bash", os.path.join(place, "job.sh"), file, os.path.join(room, "both")], env=env, stderr=subprocess.DEVNULL)
+                for _ in range(2)]
+        ends = [it.wait(MOST) for it in both]
+        must(0 in ends and files("both") == right, f"two jobs of one file: {ends}")
+        must(job("right").returncode == 0 and files("right") == right, "a letter that is done is done again")
+        other = os.path.join(room, "more", os.path.basename(file))
+        os.mkdir(os.path.dirname(other))
+        with open(file, "rb") as one, open(other, "wb") as two:
+            two.write(one.read() + b" ")
+        for more, path in (((("LIMIT", "501"),), file), ((("MAP", os.path.join(EXAMPLES, "import/lobster.toml")),), file), ((), other)):
+            ran = job("right", *more, path=path)
+            must(ran.returncode == 1 and b"remove it first" in ran.stderr and files("right") == right, f"{more}, {path}: {ran.returncode}, {ran.stderr!r}")
 
 
 def made_trades(room, dice):
@@ -117,9 +178,9 @@ def made_trades(room, dice):
                 fields = line.split("|")
                 quotes.setdefault(fields[2], []).append((int(fields[0]), float(fields[3])))
     cuts = []
-    for name in sorted(os.listdir(os.path.join(room, "cut"))):
-        if name.endswith(".symbols"):
-            with open(os.path.join(room, "cut", name), encoding="ascii") as file:
+    for letter in "ABC":
+        for name in sorted(it for it in os.listdir(os.path.join(room, "cut", letter)) if it.endswith(".symbols")):
+            with open(os.path.join(room, "cut", letter, name), encoding="ascii") as file:
                 cuts += [(symbol, int(cut)) for symbol, cut in re.findall(r"(\w+) (?:from|until) (\d{15}),", file.read())]
     must(len(cuts) > 8, f"{len(cuts)} cuts")
     for symbol, cut in [*cuts, *((it, None) for it in quotes for _ in range(30)), *((it, 93000000000000) for it in quotes)]:
@@ -198,7 +259,7 @@ def compared_day(program):
         env = dict(os.environ, NMS_REVIEW=program)
         called(sys.executable, [os.path.join(place, "make_day.py"), room, "3000", "A"], check=True)
         called("bash", [os.path.join(place, "day.sh"), room, room, "1"], check=True, env=env, capture_output=True)
-        with open(os.path.join(room, "A.day"), encoding="ascii") as file:
+        with open(os.path.join(room, "A", "A.day"), encoding="ascii") as file:
             lines = sorted((line.rstrip("\n").split(",") for line in file), key=lambda it: int(it[2]))
         rows, wanted, counts = ["Time|Symbol|" + "|".join(f"Best_{side}_{it}" for side in ("Bid", "Offer") for it in ("Exchange", "Price", "Size"))], [], {}
         for line in lines:
@@ -220,14 +281,30 @@ def compared_day(program):
                 wanted.append(f"day.nbbo:{len(rows)}: " + ("refused" if what == "refused" else f"version {line[2]}: {line[3]}: {what}"))
         with open(os.path.join(room, "day.nbbo"), "w", encoding="ascii") as file:
             file.write("\n".join(rows) + "\n")
-        words = ["compare", "A.1.changes", "day.nbbo", "--map", os.path.join(EXAMPLES, "import/nbbo.toml"), "--times", "A.1.times", "--setup", "A.1.toml"]
+        words = ["compare", "A/A.1.changes", "day.nbbo", "--map", os.path.join(EXAMPLES, "import/nbbo.toml"), "--times", "A/A.1.times",
+                 "--setup", "A/A.1.toml"]
         ran = called(program, words, capture_output=True, cwd=room)
-        came = [re.sub(r"(refused).*", r"\1", it) for it in ran.stdout.decode().splitlines() if it.startswith("day.nbbo:")]
+        came = [re.sub(r"(?:column \d+: )?(refused).*", r"\1", it) for it in ran.stdout.decode().splitlines() if it.startswith("day.nbbo:")]
         must(len(wanted) > 100 and came == wanted[:100], f"{len(wanted)} alterations, {next((it for it in zip(came, wanted) if it[0] != it[1]), len(came))}")
         found = {what: int(count) for count, what in re.findall(r"^(\d+) ([a-z ]+)$", ran.stdout.decode(), re.M) if int(count)}
         must((ran.returncode, found) == (4, {**counts, "rows": len(lines)}), f"{ran.returncode}, {found}, and not {counts}")
+        differing = {what: count for what, count in counts.items() if what not in ("equal", "refused")}
+        for kind in ("symbol", "hour"):
+            sums = {}
+            for line in re.findall(rf"^{kind} \S+: (.*)$", ran.stdout.decode(), re.M):
+                for count, what in re.findall(r"(\d+) ([a-z ]+)", line):
+                    sums[what] = sums.get(what, 0) + int(count)
+            sums = {what: count for what, count in sums.items() if count and what != "equal"}
+            must(sums == differing, f"by {kind}: {sums}, and not {differing}")
+        ran = called(program, [*words, "--refused", "rows.json", "--json"], capture_output=True, cwd=room)
+        with open(os.path.join(room, "rows.json"), encoding="ascii") as file:
+            told = [json.loads(line) for line in file]
+        came = [f"{it['file']}:{it['line']}: " + ("refused" if it["what"] == "refused" else f"version {it['version']}: {it['symbol']}: {it['finding']}") for it in told]
+        must(came == wanted, f"--refused: {next((it for it in zip(came, wanted) if it[0] != it[1]), len(came))}")
+        last = json.loads(ran.stdout.splitlines()[-1])
+        must({what: last[what.replace(" ", "_")] for what in counts} == counts, f"--json: {last}, and not {counts}")
 
 
 if __name__ == "__main__":
-    TRIALS = [("a made day", real_day), ("a made day's trades", judged_day), ("stored national bests", compared), ("altered national bests", compared_day)]
+    TRIALS = [("a made day", real_day), ("jobs of a day that die", jobs_that_die), ("a made day's trades", judged_day), ("stored national bests", compared), ("altered national bests", compared_day)]
     sys.exit(run("review", [Trial(name, trial, (os.path.realpath(sys.argv[1]),)) for name, trial in TRIALS]))

@@ -3,9 +3,9 @@
 #
 #   trades.sh FILE OUT [OPTION..]
 #
-# FILE is a file of trades of NYSE Daily TAQ, plain or .gz; OUT is the folder that day.sh or job.sh wrote. Each shard takes the
-# trades in its own symbols, and beside its other files its .executions, .taken (the counts), .left (what was refused) and
-# .judged are written. If a symbol is cut by time, just one of its shards judges each trade, and the others answer OTHER. Last,
+# FILE is a file of trades of NYSE Daily TAQ, plain or .gz; OUT is the folder that day.sh, job.sh or an engine wrote. Each shard
+# takes the trades in its own symbols, and next to its other files its .executions, .taken (the counts), .left (what was refused)
+# and .judged are written. If a symbol is cut by time, just one of its shards judges each trade, and the others answer OTHER. Last,
 # OUT/day.judged has the answers of all shards but those, each after the shard's name and a comma. OPTION is one of `trades`, as
 # --before. NMS_REVIEW and MAP may name the program and the mapping.
 set -euo pipefail
@@ -18,10 +18,10 @@ program=${NMS_REVIEW:-$here/../../nms_review}
 [ -n "${NMS_REVIEW-}" ] || [ -e "$program" ] || program=nms_review
 map=${MAP:-$here/../import/taq-trades.toml}
 
-text() { case $file in *.gz) gzip -dc "$file" ;; *) cat "$file" ;; esac; }
+text() { case $file in *.gz) $(command -v igzip || echo gzip) -dc "$file" ;; *) cat "$file" ;; esac; }
 
 # Status 7 says that an import is doubtful, as one is that finds no trade of its symbols; 6 that a record is refused.
-for setup in "$out"/*.[0-9]*.toml; do
+for setup in "$out"/*/*.[0-9]*.toml; do
     shard=${setup%.toml}
     [ -s "$shard.symbols" ] || continue
     text | "$program" import "$map" /dev/stdin --out "$shard" --setup "$setup" > "$shard.taken" 2> "$shard.left" || [ $? -eq 7 ]
