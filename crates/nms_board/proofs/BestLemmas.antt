@@ -24,7 +24,7 @@ use Rattle.nms_board.proofs.KeptLemmas.{IsCellOf, kept_below, ranked_kept, shown
 use Rattle.nms_board.proofs.ListLemmas.{slice_get-set_other, slice_get-set_same}
 use Rattle.nms_board.proofs.OrderLemmas.{with_away}
 
--- a row of no shares stands for none
+-- a row of no shares means none
 none_if_no_shares : (row : Row) → row.size ≡ 0 → row_if_any row ≡ None
 none_if_no_shares row none = rw none refl
 
@@ -43,7 +43,7 @@ same_first first was part e = by (first == was) (first == part) refl refl e
     by true true s m e = absurd (cc)
     by false mine s m e = absurd (cc)
 
--- the quotation at the first place, if nobody has one at the place of nobody
+-- the quotation at the first place, if none is at the place of no participant
 pub row_at_first : (quotes : ℕ → Option Row) (kept : KeptOrder) → quotes 32 ≡ None → quotes (first_place kept) ≡ first_row quotes kept
 row_at_first quotes kept nobody = by kept.places
   where

@@ -39,7 +39,7 @@ all_repeated p h x = rw (list_all-append p (h ++ x ∷ []) (x ∷ []), list_all-
     absorbed true false = refl
     absorbed false b = refl
 
--- the last content once more: as many entries are before the equal ones
+-- the last content once more: the same number of entries is before the equal ones
 before_equal_end_same : (h : List (Option Content)) (x : Option Content)
     → before_equal_end ((h ++ x ∷ []) ++ x ∷ []) ≡ before_equal_end (h ++ x ∷ [])
 unfolding before_equal_end
@@ -83,7 +83,7 @@ versions_push (x ∷ xs) change =
     ap (λ vs. [] ∷ map (λ tape. x ∷ tape) vs) (versions_push xs change)
     ∙ ap (λ vs. [] ∷ vs) (map_push (λ tape. x ∷ tape) (versions xs) (xs ++ change ∷ []))
 
--- the versions before the last, which is the whole tape
+-- the versions before the last, which is the complete tape
 record EndsInAll (tape : Tape) : Type 0 where
   before : List Tape
   is : versions tape ≡ before ++ tape ∷ []

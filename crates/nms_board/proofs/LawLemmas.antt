@@ -38,7 +38,7 @@ by_last_change P base step tape = from [] tape base
 version-push : (k : ℕ) (tape : Tape) (change : Change) → k ≤ length tape → version k (tape ++ change ∷ []) ≡ version k tape
 version-push k tape change le = take-append-le k tape (change ∷ []) le
 
--- a version of the longer tape is one of the old or the whole
+-- a version of the longer tape is one of the old or the complete one
 earlier_or_all : (k : ℕ) (tape : Tape) (change : Change) → (k ≤ length tape) ⊎ (version k (tape ++ change ∷ []) ≡ tape ++ change ∷ [])
 earlier_or_all k tape change =
     elim (cases_lt (length tape) k) [

@@ -1,4 +1,4 @@
--- The rows that a board shows are of its own participants.
+-- The rows that a board shows are of the board's participants.
 use Rattle.std.proofs.Common.{ℕ, zero, suc, ◌≡◌, ◌+◌, ◌<◌, ◌≤◌, Bool, true, false, cond, List, [], ◌∷◌, Option, Some, None, arith, refl}
 use Rattle.std.proofs.Common.{ap, length, subst}
 use Rattle.std.specs.Prelude.{All, slice_get, slice_index, ◌==◌}

@@ -77,7 +77,7 @@ IsFrom-range f each place zero = tt
 IsFrom-range f each place (suc n) = IsFrom-cons place (f place) (filter_map f (range_with_len (place
     + 1) n)) (each place) (IsFrom-range f each (place + 1) n)
 
--- the rows that a tape shows are in order, each with a size and a receipt of its own
+-- the rows that a tape shows are in order, each with a size and its own receipt
 pub quotations_are_rows : (sizes : Sizes) (tape : Tape) (sym : ℕ) (side : Side) → AreRows (quotations sizes tape sym side)
 quotations_are_rows sizes tape symbol side =
     let from : IsFrom 0 (quotations sizes tape symbol side) =
@@ -137,7 +137,7 @@ walk_of inside board symbol lot at all cells same shape listed at_is all_is cell
       cells_are = cells_is ∙ rw (at_is, all_is) (ap (λ (b : Board). symbol_cells b.sizes.parts symbol b.cells) same);
     }
 
--- they are as many as participants
+-- there is one for each participant
 pub walk_long : (board : Board) (sym lot : ℕ) (cells : List Cell) → IsWalk board sym lot cells → length cells ≡ board.sizes.parts
 walk_long board symbol lot cells walk =
     let in_syms = slice_get_within board.lots symbol lot walk.listed in

@@ -1,4 +1,4 @@
--- The best rows that a board keeps of every symbol beside its rank orders, so that a look at them reads nothing else. This
+-- The best rows that a board keeps of every symbol next to its rank orders, so that a look at them reads nothing else. This
 -- product's own rule.
 use Rattle.std.specs.Prelude.{ℕ, ◌≡◌, ◌≢◌, ◌==◌, List, length, slice_get, Option, Some, None, if◌then◌else◌}
 use Rattle.std.specs.Option.{option_and_then}

@@ -5,7 +5,7 @@ use Rattle.nms_quote.specs.declared.side_quote.Side.{Side}
 use Rattle.nms_board.specs.Ranking.{ranks_above}
 use Rattle.nms_board.specs.declared.row.Row.{Row}
 
--- a row comes before another by participant place, and has a receipt of its own
+-- a row comes before another by participant place, and has another receipt
 abbrev pub precedes : Row → Row → Bool
 precedes row other = nat_lt row.part other.part && not (row.receipt == other.receipt)
 

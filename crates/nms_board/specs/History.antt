@@ -1,6 +1,5 @@
--- What a tape says of one side of one participant in one symbol, and of the symbol's round lot, looking back
--- over the whole of it.
--- This product's own rule, after the tape's order of changes.
+-- What a tape says about one side of one participant in one symbol, and about the symbol's round lot, looking back over all of
+-- it. This product's own rule, after the tape's order of changes.
 use Rattle.std.specs.Prelude.{ℕ, ◌+◌, ◌==◌, ◌&&◌, Bool, true, false, List, [], ◌∷◌, map, Option, Some, None, option_map, slice_get}
 use Rattle.std.specs.Prelude.{unwrap_or, if◌then◌else◌}
 use Rattle.std.specs.List.{filter_map, last_or, list_all}
@@ -77,7 +76,7 @@ unfoldable pub before_equal_end : List (Option Content) → ℕ
 before_equal_end [] = 0
 before_equal_end (x ∷ xs) = if list_all (same_content x) xs then 0 else before_equal_end xs + 1
 
--- the side's content in each version, from the empty tape to the whole one
+-- the side's content in each version, from the empty tape to the complete one
 abbrev pub contents_over : ℕ → ℕ → Side → Tape → List (Option Content)
 contents_over part sym side tape = map (content_at part sym side) (versions tape)
 

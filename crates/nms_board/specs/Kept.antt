@@ -1,4 +1,4 @@
--- What a board keeps beside its cells of every symbol.
+-- What a board keeps next to its cells of every symbol.
 use Rattle.std.specs.Prelude.{ℕ, ◌≡◌, ◌+◌, ◌*◌, ◌<◌, List, [], length, slice_get, slice_index, slice_range, slice_set, Option, Some}
 use Rattle.nms_quote.specs.Roster.{Sizes}
 use Rattle.nms_quote.specs.declared.side_quote.Side.{Side}

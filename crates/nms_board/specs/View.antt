@@ -30,7 +30,7 @@ pub record AreRows (rows : List Row) : Type 0 where
   pub sizes : All (λ row. 0 < row.size) rows
   pub receipts : AllPairs (λ row other. row.receipt ≢ other.receipt) rows
 
--- the view of the whole tape
+-- the view of the complete tape
 abbrev pub view_of : Sizes → Tape → ℕ → Seen
 view_of sizes tape sym = record {
   version = length tape;

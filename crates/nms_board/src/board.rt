@@ -26,11 +26,11 @@ use nms_units::Lot;
 use std::alloc::{AllocError, Global};
 use std::marker::Model;
 
-/// What every participant quotes in every symbol of a roster after the changes applied so far.
-/// The cells are made once; the changes themselves are not kept.
+/// What every participant quotes in every symbol of a roster after the changes applied so far. The cells are made once; the
+/// changes are not kept.
 pub struct Boards {
     parts: u8,
-    /// The round lot that each symbol opened with.
+    /// The round lot with which each symbol opened.
     opening: Vec<Lot>,
     /// The round lot that each symbol has now.
     lots: Vec<Lot>,
@@ -43,7 +43,7 @@ pub struct Boards {
     applied: u64,
 }
 
-/// A `Drop` of its own: a function that holds one then has one call at each exit, and not one for each part (docs/GATE.md).
+/// It has its own `Drop`, so that a function that holds one has one call at each exit, and not one for each part (docs/GATE.md).
 impl Drop for Boards {
     fn drop(self) {
         let Boards {
@@ -119,7 +119,7 @@ impl Boards {
         })
     }
 
-    /// Takes everything off the board: it is as `new` made it. It takes no memory.
+    /// Takes everything off the board, so that it is as `new` made it. It takes no memory.
     pub fn clear(&mut self)
         ensures { self.new ≡ opening self.old.sizes }
     {
@@ -155,7 +155,7 @@ impl Boards {
         part.get() < self.parts
     }
 
-    /// Whether a symbol is of the board's roster.
+    /// Whether a symbol is on the board's roster.
     pub fn has_sym(&self, sym: Sym) -> bool
         ensures { result ≡ nat_lt sym (length self.now.sizes.lots) }
     {
@@ -170,8 +170,8 @@ impl Boards {
         self.parts
     }
 
-    /// The quotation of a participant of the roster on a side of a symbol of it, if it is one: one of
-    /// the rows of that symbol's view.
+    /// The quotation of a participant of the roster on a side of one of its symbols, if there is one. It is one of the rows of
+    /// that symbol's view.
     #[inline(always)]
     pub fn row(&self, side: Side, part: Part, sym: Sym) -> Option<Row>
         requires part { part < self.now.sizes.parts }
@@ -182,8 +182,8 @@ impl Boards {
         self.cells[place_of(part, sym)].row(side, part, lot)
     }
 
-    /// The row at place `at` of a side's rank order in a symbol, from 0 on: the row above which exactly `at` of the symbol's
-    /// rows on the side rank. `None` if and only if `at` is their number or more.
+    /// The row at place `at` of a side's rank order in a symbol, counted from 0. Exactly `at` of the symbol's rows on the side
+    /// rank above it. `None` if and only if `at` is their number or more.
     #[inline(always)]
     pub fn ranked(&self, side: Side, sym: Sym, at: u8) -> Option<Row>
         requires { sym < length self.now.sizes.lots }
@@ -215,8 +215,8 @@ impl Boards {
         }
     }
 
-    /// The row that ranks first on a side of a symbol of the roster: that of `ranked` at place 0. It is kept, so no cell is
-    /// read.
+    /// The row that ranks first on a side of a symbol of the roster, which is that of `ranked` at place 0. It is kept, so no
+    /// cell is read.
     #[inline(always)]
     pub fn best(&self, side: Side, sym: Sym) -> Option<Row>
         requires { sym < length self.now.sizes.lots }
@@ -237,7 +237,7 @@ impl Boards {
         self.orders_of(sym).total(side)
     }
 
-    /// What a participant of the roster holds in a symbol: its state and both sides, even if no look shows them (less
+    /// What a participant of the roster has in a symbol: its state and both sides. A side may be one that no look shows (less
     /// than a round lot, or halted).
     pub fn cell(&self, part: Part, sym: Sym) -> Cell
         requires part { part < self.now.sizes.parts }
@@ -247,22 +247,22 @@ impl Boards {
         self.cells[place_of(part, sym)]
     }
 
-    /// The round lot that a symbol opened with; `None` for a symbol out of the roster.
+    /// The round lot with which a symbol opened; `None` for a symbol that is not on the roster.
     pub fn opening_lot(&self, sym: Sym) -> Option<Lot>
         ensures { result ≡ slice_get self.now.sizes.lots sym }
     {
         self.opening.get(usize::from(sym.get())).copied()
     }
 
-    /// The present round lot of a symbol; `None` for a symbol out of the roster.
+    /// The present round lot of a symbol; `None` for a symbol that is not on the roster.
     pub fn lot_of(&self, sym: Sym) -> Option<Lot>
         ensures { result ≡ slice_get self.now.lots sym }
     {
         self.lots.get(usize::from(sym.get())).copied()
     }
 
-    /// Applies one more change. Constant work for a quote or a state; a withdrawal goes over the
-    /// symbols, and a new round lot over the participants of its symbol.
+    /// Applies one more change. The work is constant for a quote or a state. For a withdrawal it grows with the symbols, for a
+    /// new round lot with the participants.
     #[inline(always)]
     pub fn apply(&mut self, change: Change)
         requires { takes self.old change ≡ true }
@@ -328,7 +328,7 @@ impl Boards {
         self.applied
     }
 
-    /// A law: a look shows each side's rows by participant place, each of at least one share, no two of one receipt.
+    /// A law: a look shows each side's rows by participant place. Each has at least one share, and no two have the same receipt.
     pub fn shows_rows(&self, sym: Sym)
         ensures bids { AreRows (rows_held self.now sym Bid) }
         ensures offers { AreRows (rows_held self.now sym Offer) }
@@ -336,16 +336,16 @@ impl Boards {
         let _ = (self.applied, sym);
     }
 
-    /// A law: a board holds what some tape says, so each receipt is a change's number, and participants' quoted sides
-    /// in a symbol have different ones.
+    /// A law: a board shows what some tape says. So each receipt is a change's number, and participants' quoted sides in a
+    /// symbol have different ones.
     pub fn stands_for_a_tape(&self)
         ensures { IsBoard self.now }
     {
-        // A read of a field: it lets the proof see the invariant.
+        // A field is read so that the prover sees the invariant.
         let _applied = self.applied;
     }
 
-    /// The quotations of one symbol; no rows for a symbol out of the roster.
+    /// The quotations of one symbol; no rows for a symbol that is not on the roster.
     pub fn view(&self, sym: Sym) -> View
         ensures cells { result ≡ seen_on self.now sym }
         ensures shows { (tape : Tape) → StandsFor self.now tape
@@ -360,7 +360,7 @@ impl Boards {
         view
     }
 
-    /// The rank orders of a symbol of the roster, those that a view carries.
+    /// The rank orders of a symbol of the roster, which a view carries.
     fn orders_of(&self, sym: Sym) -> &SymbolRanks
         requires { sym < length self.now.sizes.lots }
         ensures { AreCarried (rows_held self.now sym Bid) (rows_held self.now sym Offer) result.now }
@@ -368,7 +368,7 @@ impl Boards {
         &self.ranks[usize::from(sym.get())]
     }
 
-    /// Appends the quotations of a symbol in lots of that size to the rows of the sides.
+    /// Appends the quotations of a symbol, in lots of the given size, to the rows of the sides.
     fn show(
         &self,
         sym: Sym,
@@ -422,8 +422,8 @@ fn place_of(part: Part, sym: Sym) -> usize
     MOST_ROWS * usize::from(sym.get()) + usize::from(part.get())
 }
 
-/// Withdraws the participant's cell in each symbol, as the change of that number. A cell with no quote on
-/// either side stays, and its symbol with it.
+/// Withdraws the participant's cell in each symbol, as the change with that number. A cell that has no quote on either side
+/// stays, and its symbol with it.
 fn withdraw_from(
     number: u32,
     part: Part,
@@ -459,8 +459,7 @@ fn withdraw_from(
     }
 }
 
-/// Alters the participant's cell in a symbol, as the change of that number says, and with it the symbol's
-/// rank orders.
+/// Alters the participant's cell in a symbol, as the change with that number says, and with it the symbol's rank orders.
 fn alter(
     number: u32,
     change: &Change,
@@ -495,7 +494,7 @@ fn alter(
     bests[sym].follow(part, lot, firsts, orders, shown);
 }
 
-/// Gives a symbol another round lot, in which both its sides rank anew.
+/// Gives a symbol another round lot, in which both its sides are ranked again.
 fn set_lot(
     sym: usize,
     lot: Lot,

@@ -1,4 +1,4 @@
-//! One participant in one symbol: the cells of `specs/Cells`.
+//! One participant in one symbol, which is a cell of `specs/Cells`.
 ghost use Rattle.std.specs.Prelude.{◌≡◌, ℕ, ◌*◌, ◌≤◌, IfOk, Some, false, length, true, replicate};
 ghost use Rattle.std.specs.Option.{is_some};
 ghost use Rattle.nms_board.specs.Cells.{empty_cell};
@@ -11,15 +11,15 @@ use nms_units::{Lot, Price, Shares};
 use std::alloc::{AllocError, Global};
 use std::marker::Model;
 
-/// One side of a participant in a symbol, and the number of the change that last altered it. It takes 16 bytes: the
-/// cells of a symbol are read one after another, so they are close together.
+/// One side of a participant in a symbol, and the number of the change that last altered it. It takes 16 bytes, so that the
+/// cells of a symbol, which are read one after another, are close together.
 #[derive(Clone, Copy, PartialEq, Eq)]
 pub struct Held {
-    /// In 1/10,000 dollar; the least price if nothing is quoted.
+    /// The price, in 1/10,000 dollar; the least price if nothing is quoted.
     price: Price,
-    /// 0 if nothing is quoted.
+    /// The shares; 0 if nothing is quoted.
     shares: Shares,
-    /// The number of that change, 1 to 10,000,000, and 0 if no change altered the side.
+    /// The number of that change, 1 to 10,000,000; 0 if no change altered the side.
     receipt: u32,
 }
 
@@ -56,7 +56,7 @@ impl Held {
         }
     }
 
-    /// A side that the change of that number altered.
+    /// A side that the change with that number altered.
     fn of(number: u32, quote: Option<SideQuote>) -> Self
         ensures quote { result.quote ≡ quote }
         ensures receipt { result.receipt ≡ number }
@@ -75,14 +75,14 @@ impl Held {
         }
     }
 
-    /// What is quoted, if something is.
+    /// The quotation of the side, if there is one.
     pub fn quote(&self) -> Option<SideQuote>
         ensures { result ≡ self.now.quote }
     {
         SideQuote::new(self.price, self.shares)
     }
 
-    /// What is quoted, for a side that quotes.
+    /// The quotation of a side that has one.
     pub(crate) fn quoted(&self) -> SideQuote
         requires { is_some self.now.quote ≡ true }
         ensures { Some result ≡ self.now.quote }
@@ -100,15 +100,15 @@ impl Held {
         u64::from(self.receipt)
     }
 
-    /// Whether something is quoted.
+    /// Whether the side has a quotation.
     fn is_quoted(&self) -> bool
         ensures { result ≡ is_some self.now.quote }
     {
         self.shares.get() > 0
     }
 
-    /// Takes what the change of that number says: the receipt stays if nothing is altered. The rest is always written,
-    /// since a branch here would be taken at random.
+    /// Takes what the change with that number says. The receipt stays if nothing is altered. The rest is always written,
+    /// because a branch here would be taken at random.
     pub(crate) fn take(&mut self, number: u32, quote: Option<SideQuote>)
         ensures { self.new ≡ held_after number quote self.old }
     {
@@ -123,7 +123,7 @@ impl Held {
 /// A participant in a symbol.
 #[derive(Clone, Copy)]
 pub struct Cell {
-    /// `None` if the participant never quoted there.
+    /// The state; `None` if the participant never quoted there.
     pub state: Option<QState>,
     /// Its bid, hidden while the state is `Halted`.
     pub bid: Held,
@@ -136,7 +136,7 @@ impl Cell {
     ghost use Rattle.nms_board.specs.Ranks.{size_of};
     ghost use Rattle.nms_board.specs.Shown.{row_of_cell};
 
-    /// A participant that never quoted there.
+    /// The cell of a participant that never quoted there.
     pub(crate) fn empty() -> Self
         ensures { result ≡ empty_cell }
     {
@@ -147,7 +147,7 @@ impl Cell {
         }
     }
 
-    /// Takes a quote of both sides, as the change of that number.
+    /// Takes a quote of both sides, as the change with that number.
     pub(crate) fn quote(
         &mut self,
         number: u32,
@@ -169,7 +169,7 @@ impl Cell {
         self.state = Some(state);
     }
 
-    /// Takes a change of the participant in the symbol, as the change of that number. A new round lot leaves the cell.
+    /// Takes a change of the participant in the symbol, as the change with that number. A new round lot leaves the cell as it is.
     pub(crate) fn alter(&mut self, number: u32, change: &Change)
         ensures { self.new ≡ altered number change.now self.old }
     {
@@ -186,7 +186,7 @@ impl Cell {
         }
     }
 
-    /// Takes a withdrawal of both sides, as the change of that number. The state stays.
+    /// Takes a withdrawal of both sides, as the change with that number. The state stays.
     pub(crate) fn withdraw(&mut self, number: u32)
         ensures { self.new ≡ withdrawn number self.old }
     {
@@ -201,7 +201,7 @@ impl Cell {
         self.bid.is_quoted() | self.offer.is_quoted()
     }
 
-    /// What is held of a side.
+    /// What the cell has on a side.
     pub(crate) fn held(&self, side: Side) -> &Held
         ensures { result.now ≡ on_side side self.now.bid self.now.offer }
     {
@@ -220,7 +220,7 @@ impl Cell {
         held.receipt == held_before.receipt && held == held_before && self.state == was.state
     }
 
-    /// The size of a side's quotation in lots of that size: 0 if it has none.
+    /// The size of a side's quotation in lots of the given size; 0 if it has none.
     pub(crate) fn size(&self, side: Side, lot: Lot) -> u32
         ensures { (part : ℕ) → result ≡ size_of (row_of_cell lot part side self.now) }
     {
@@ -230,7 +230,7 @@ impl Cell {
         lot.displayed(self.held(side).shares)
     }
 
-    /// The quotation of a side in lots of that size, if it is one.
+    /// The quotation of a side in lots of the given size, if there is one.
     #[inline(always)]
     pub(crate) fn row(&self, side: Side, part: Part, lot: Lot) -> Option<Row>
         ensures { result ≡ row_of_cell lot part side self.now }
@@ -250,7 +250,7 @@ impl Cell {
     }
 }
 
-/// Makes cells those of participants that never quoted.
+/// Resets cells to those of participants that never quoted.
 pub(crate) fn clear_cells(cells: &mut [Cell])
     ensures { cells.new ≡ replicate (length cells.old) empty_cell }
 {

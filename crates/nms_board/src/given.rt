@@ -1,4 +1,4 @@
-//! Rows that a caller brings, best first, tested and put by participant place: `specs/Given`.
+//! Testing rows that a caller brings, best first, and putting them by participant place: `specs/Given`.
 ghost use Rattle.std.specs.Prelude.{◌≡◌, ◌≤◌, ◌↔◌, IfSome, IsSome, List, length, true};
 ghost use Rattle.nms_board.specs.Given.{are_rows, falls, precedes, precedes_all, ranks_above_all};
 ghost use Rattle.nms_board.specs.Ranking.{IsRankOrder};
@@ -10,8 +10,8 @@ use crate::row::Row;
 use arrayvec::ArrayVec;
 use nms_quote::Side;
 
-/// The rows of a side by participant place, of its rows in rank order. `None` if no side shows those: a row does not rank
-/// above each later one, has no share, or has the participant or the receipt of another.
+/// The rows of a side by participant place, from its rows in rank order. `None` if no side shows those. Then a row does not
+/// rank above each later one, has no share, or has the participant or the receipt of another.
 pub(crate) fn by_place(side: Side, in_order: &[Row]) -> Option<ArrayVec<Row, MOST_ROWS>>
     requires { length in_order.now ≤ MOST_ROWS }
     ensures rows { IfSome result (λ rows. AreRows rows.items) }
@@ -46,21 +46,21 @@ fn falls(side: Side, rows: &[Row]) -> bool
     true
 }
 
-/// Whether a row ranks above each of these.
+/// Whether a row ranks above each of the others.
 fn ranks_above_all(side: Side, row: &Row, more: &[Row]) -> bool
     ensures { result ≡ ranks_above_all side row.now more.now }
 {
     more.iter().all(|other| row.ranks_above(side, other))
 }
 
-/// Whether rows are by participant place, each of one share or more, no two of one receipt.
+/// Whether rows are by participant place, each of at least one share, and no two with the same receipt.
 fn are_rows(rows: &[Row]) -> bool
     ensures { result ≡ true ↔ AreRows rows.now }
 {
     test_rows(rows)
 }
 
-/// As `are_rows`, and the definition that computes it.
+/// As `are_rows`, for the definition that computes it.
 #[tactic(auto, unfolding(crate::specs::Given::are_rows))]
 fn test_rows(rows: &[Row]) -> bool
     ensures { result ≡ are_rows rows.now }
@@ -75,14 +75,14 @@ fn test_rows(rows: &[Row]) -> bool
     true
 }
 
-/// Whether a row precedes each of these.
+/// Whether a row precedes each of the others.
 fn precedes_all(row: &Row, more: &[Row]) -> bool
     ensures { result ≡ precedes_all row.now more.now }
 {
     more.iter().all(|other| precedes(row, other))
 }
 
-/// Whether a row comes before another by participant place, and has a receipt of its own.
+/// Whether a row comes before another by participant place, and has another receipt.
 fn precedes(row: &Row, other: &Row) -> bool
     ensures { result ≡ precedes row.now other.now }
 {

@@ -1,4 +1,4 @@
-//! Rows from changes: what each participant quotes in each symbol.
+//! The rows that changes give: what each participant quotes in each symbol.
 #![tactic(auto)]
 
 mod board;

@@ -5,11 +5,11 @@ ghost use Rattle.nms_board.specs.Ranking.{better_price, ranks_above};
 use nms_quote::{Part, Side};
 use nms_units::Price;
 
-/// A quotation: a participant's bid or offer in a symbol that shows at least one round lot (17 CFR 242.600, "bid or
-/// offer"). The wide fields come first, so that a row takes 24 bytes.
+/// A quotation: a participant's bid or offer in a symbol that shows at least one round lot (17 CFR 242.600, "bid or offer").
+/// The wide fields come first, so that a row takes 24 bytes.
 #[derive(Clone, Copy, PartialEq, Eq)]
 pub struct Row {
-    /// In 1/10,000 dollar.
+    /// The price, in 1/10,000 dollar.
     pub price: Price,
     /// The number of the change that last altered the side's price or shares.
     pub receipt: u64,
@@ -17,7 +17,7 @@ pub struct Row {
     pub size: u32,
     /// The participant that quotes it.
     pub part: Part,
-    /// Whether it is a protected bid or offer: every automated quotation is.
+    /// Whether it is a protected bid or offer, which every automated quotation is.
     pub protected: bool,
 }
 
@@ -29,7 +29,7 @@ impl Default for Row {
 }
 
 impl Row {
-    /// What stands for no row: one of no shares.
+    /// The row that means no row, because it has no shares.
     pub(crate) fn nothing() -> Self
         ensures { result.size ≡ 0 }
     {

@@ -1,4 +1,4 @@
-//! The best row of each side of a symbol, kept beside its rank orders: `specs/Bests`.
+//! The best row of each side of a symbol, kept next to its rank orders: `specs/Bests`.
 ghost use Rattle.std.specs.Prelude.{◌≡◌, ◌≤◌, All, IfOk, length};
 ghost use Rattle.nms_quote.specs.declared.side_quote.Side.{Side};
 ghost use Rattle.nms_board.specs.Bests.{HasNone, IsUnlessOf, best_on, first_row, row_if_any};
@@ -15,7 +15,8 @@ use nms_quote::{MOST_SYMBOLS, Part, Side};
 use nms_units::Lot;
 use std::alloc::{AllocError, Global};
 
-/// The best bid and the best offer of a symbol, so that a look at them reads nothing else. A row of no shares stands for none.
+/// The best bid and the best offer of a symbol, so that a look at them reads nothing else. A row of no shares means that there
+/// is none.
 #[derive(Clone, Copy)]
 pub(crate) struct SymbolBest {
     pub(crate) bid: Row,
@@ -23,7 +24,7 @@ pub(crate) struct SymbolBest {
 }
 
 impl SymbolBest {
-    /// That of a symbol with no rows.
+    /// The best rows of a symbol that has no rows.
     fn none() -> Self
         ensures { HasNone result }
     {
@@ -33,7 +34,7 @@ impl SymbolBest {
         }
     }
 
-    /// The first rows of the orders of a symbol's cells, in lots of that size.
+    /// The first rows of the orders of a symbol's cells, in lots of the given size.
     pub(crate) fn of(lot: Lot, orders: &SymbolRanks, cells: &[Cell]) -> Self
         requires { length cells.now ≤ MOST_ROWS }
         ensures { (side : Side) → best_on side result ≡ first_row (row_among lot cells.now side) (order_on side orders.now) }
@@ -56,8 +57,8 @@ impl SymbolBest {
         if row.size == 0 { None } else { Some(row) }
     }
 
-    /// Takes the first rows of the orders after a change of a participant's cell, given who was first before it. A side
-    /// whose first participant is the same, and is not that one, stays: so a cell is seldom read.
+    /// Takes the first rows of the orders after a change of a participant's cell, given the first participants before it. A
+    /// side stays if its first participant is the same, and is not the one that changed. So a cell is seldom read.
     #[inline(always)]
     pub(crate) fn follow(
         &mut self,
@@ -92,7 +93,7 @@ impl SymbolBest {
     }
 }
 
-/// Takes the first row of a side's order after a change of a participant's cell, given who was first before it.
+/// Takes the first row of a side's order after a change of a participant's cell, given the first participant before it.
 #[inline(always)]
 fn follow_side(
     side: Side,
@@ -108,13 +109,13 @@ fn follow_side(
     ensures { row_if_any best.new ≡ first_row (row_among lot cells.now side) order.now }
 {
     let first = order.first();
-    // One branch, seldom taken, and a call there: the common way keeps its registers.
+    // There is one branch, which is seldom taken, and a call in it, so that the common way keeps its registers.
     if (first != was) | (first == part.get()) {
         *best = row_of(side, lot, first, cells);
     }
 }
 
-/// The row of the participant at a place, from its cell; one of no shares if there is none.
+/// The row of the participant at a place, from its cell; a row of no shares if there is none.
 #[inline(never)]
 fn row_of(side: Side, lot: Lot, place: u8, cells: &[Cell]) -> Row
     requires { length cells.now ≤ MOST_ROWS }
@@ -136,7 +137,7 @@ fn find_row(side: Side, lot: Lot, place: u8, cells: &[Cell]) -> Option<Row>
     cell.row(side, Part::new(place)?, lot)
 }
 
-/// Makes the best rows of symbols those of no rows.
+/// Resets the best rows of symbols to those of no rows.
 pub(crate) fn clear_bests(bests: &mut [SymbolBest])
     ensures len { length bests.new ≡ length bests.old }
     ensures empty { All HasNone bests.new }

@@ -1,4 +1,4 @@
-//! Changes as records: `specs/ChangeText`.
+//! Writing changes as records: `specs/ChangeText`.
 ghost use Rattle.std.specs.Prelude.{◌≡◌, ◌+◌, ◌<◌, ◌≤◌, ◌++◌, ◌∷◌, [], drop, length, OnOk};
 ghost use Rattle.nms_lines.specs.Text.{later_fields, text_of};
 ghost use Rattle.nms_change_text.specs.ChangeText.{change_record, changes_text, kind_letter, said_fields, side_fields, state_letter};
@@ -22,7 +22,7 @@ pub fn append_changes(
 }
 
 /// Appends the record of a change: `Q`, `S`, `X` or `R` with its fields, prices with four decimals, and a line feed. A
-/// participant or a symbol that is not of the roster has an empty name. After an error nothing was appended.
+/// participant or a symbol that is not on the roster has an empty name. After an error nothing was appended.
 pub fn append_change(out: &mut Vec<u8>, roster: &Roster, change: &Change) -> Result<(), AllocError>
     ensures { OnOk result (out.new.items ≡ out.old.items ++ text_of (change_record roster.now change.now ∷ [])) }
 {
@@ -32,7 +32,7 @@ pub fn append_change(out: &mut Vec<u8>, roster: &Roster, change: &Change) -> Res
     out.extend_from_slice(&buf[start..])
 }
 
-/// Writes the fields of a change, which take at most 111 bytes, so that they end at a place. Returns where they start.
+/// Writes the fields of a change, which take at most 111 bytes, so that they end at a place. Returns the place at which they start.
 fn change_before(buf: &mut [u8], end: usize, roster: &Roster, change: &Change) -> usize
     requires room { 111 ≤ end }
     requires within { end ≤ length buf.old }
@@ -72,7 +72,8 @@ fn change_before(buf: &mut [u8], end: usize, roster: &Roster, change: &Change) -
     }
 }
 
-/// Writes a side's price and shares, which take at most 47 bytes, so that they end at a place. Returns where they start.
+/// Writes a side's price and shares, which take at most 47 bytes, so that they end at a place. Returns the place at which they
+/// start.
 fn side_before(buf: &mut [u8], end: usize, side: &Option<SideQuote>) -> usize
     requires room { 47 ≤ end }
     requires within { end ≤ length buf.old }

@@ -6,7 +6,7 @@ use nms_lines::{part_names_are_formed, symbol_names_are_formed};
 use nms_quote::{Change, Roster, SideQuote};
 use nms_units::{Money, Price, digits_read_as_printed};
 
-/// `append_changes` writes changes of the roster as a text of their records and no others, each read as its change:
+/// `append_changes` writes changes of the roster as a text of their records and no others. Each record is read as its change
 /// from a script, a file of changes, and its own feed.
 pub fn changes_read_as_written(roster: &Roster)
     ensures { ChangesReadAsWritten roster.now }

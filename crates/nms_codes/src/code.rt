@@ -1,26 +1,26 @@
-//! The codes that the reviewer's program ends with, or reports of a record or a setup.
+//! The codes with which the reviewer's program ends, or which it reports about a record or a setup.
 ghost use Rattle.std.specs.Prelude.{◌≡◌, true};
 ghost use Rattle.nms_codes.specs.Codes.{matter_of, status_of, text_of};
 ghost use Rattle.nms_show.specs.Plain.{is_plain};
 
 use crate::matter::Matter;
 
-/// A code, by letter and number. Each is printed as it is named here, but for `E3Rows` and `Usage`.
+/// A code, by letter and number. Each is printed as it is named here, except `E3Rows` and `Usage`.
 #[derive(Clone, Copy, Debug, PartialEq, Eq, PartialOrd, Ord)]
 pub enum Code {
     /// A1: there are fewer changes than a version has.
     A1,
     /// B1: out of memory for the board.
     B1,
-    /// C1: a setup is no TOML document.
+    /// C1: a setup is not a TOML document.
     C1,
     /// C2: a setup lacks a key.
     C2,
     /// C3: a setup has a key that is not known.
     C3,
-    /// C4: a name is not of its form, or stands twice.
+    /// C4: a name does not have its form, or is there twice.
     C4,
-    /// C5: a value is not of its kind.
+    /// C5: a value does not have its kind.
     C5,
     /// C6: a number is out of its range.
     C6,
@@ -42,15 +42,15 @@ pub enum Code {
     E4,
     /// F4: a file has more changes than the tape's limit.
     F4,
-    /// G2: out of memory for the words of the call.
+    /// G2: out of memory for the arguments of the call.
     G2,
     /// H1: a line is no time.
     H1,
     /// H2: a time is before the one above it.
     H2,
-    /// H3: there are not as many times as changes.
+    /// H3: the number of times is not that of the changes.
     H3,
-    /// H4: a line of the symbols is none.
+    /// H4: a line of the symbols is malformed.
     H4,
     /// I1: most rows of an import were refused.
     I1,
@@ -58,9 +58,9 @@ pub enum Code {
     I2,
     /// I3: times of an import fall against its mapping.
     I3,
-    /// I4: the row at the end of an import's file counts other rows than there are.
+    /// I4: the row at the end of an import's file has another count than the rows before it.
     I4,
-    /// I5: no row of an import gave anything.
+    /// I5: no row of an import made anything.
     I5,
     /// J1: the times are not those of the changes.
     J1,
@@ -70,19 +70,19 @@ pub enum Code {
     J3,
     /// L1: a record is of no kind that is read there.
     L1,
-    /// L2: a record has not the number of fields of its kind.
+    /// L2: a record does not have the number of fields of its kind.
     L2,
     /// L3: a participant is not on the roster.
     L3,
     /// L4: a symbol is not on the roster.
     L4,
-    /// L5: a state, a side or a flag is none.
+    /// L5: a text is no state, no side or no flag.
     L5,
-    /// L6: a price is none.
+    /// L6: a text is no price.
     L6,
-    /// L7: shares are none.
+    /// L7: a text is no number of shares.
     L7,
-    /// L8: a side has one of its two fields alone.
+    /// L8: a side has only one of its two fields.
     L8,
     /// L9: a record is of another feed.
     L9,
@@ -94,9 +94,9 @@ pub enum Code {
     L12,
     /// L13: the text of a plan could not be written.
     L13,
-    /// L14: a round lot is none.
+    /// L14: a text is no round lot.
     L14,
-    /// M1: a mapping is no TOML document.
+    /// M1: a mapping is not a TOML document.
     M1,
     /// M2: a mapping lacks a key.
     M2,
@@ -104,11 +104,11 @@ pub enum Code {
     M3,
     /// M4: a mapping has a value that is not allowed.
     M4,
-    /// M5: a file has no column that its mapping names.
+    /// M5: a file lacks a column that its mapping names.
     M5,
     /// M6: out of memory for a mapping.
     M6,
-    /// The words of the call were refused.
+    /// The arguments of the call were refused.
     Usage,
 }
 
@@ -172,7 +172,7 @@ impl Code {
         }
     }
 
-    /// What it speaks of.
+    /// The matter that the code is about.
     pub fn matter(self) -> Matter
         ensures { result ≡ matter_of self }
     {
@@ -211,7 +211,7 @@ impl Code {
         }
     }
 
-    /// The exit status of a call that it ends.
+    /// The exit status of a call that ends with the code.
     pub fn status(self) -> u8
         ensures { result ≡ status_of self }
     {

@@ -1,4 +1,4 @@
-//! The code of each fault of the crates below. A new fault has none until it is named here.
+//! The code of each fault of the lower crates. A new fault has none until it is named here.
 ghost use Rattle.std.specs.Prelude.{codes};
 ghost use Rattle.nms_codes.specs.Codes.{IsToldAs, code_of_show, code_of_times, status_of_show, status_of_times};
 ghost use Rattle.nms_fees.specs.Faults as setup_faults;
@@ -16,7 +16,7 @@ use nms_show::ShowFault;
 use nms_times::TimesFault;
 
 impl Code {
-    /// Of a refused record.
+    /// The code of a refused record.
     pub fn of_line(fault: LineFault) -> Code
         ensures { IsToldAs result (line_faults.code_of fault) record_faults.refused_status }
     {
@@ -35,7 +35,7 @@ impl Code {
         }
     }
 
-    /// Of a file that was not read.
+    /// The code of a file that was not read.
     pub fn of_record(fault: RecordFault) -> Code
         ensures { IsToldAs result (record_faults.code_of fault) (record_faults.status_of fault) }
     {
@@ -45,7 +45,7 @@ impl Code {
         }
     }
 
-    /// Of a file that is no tape.
+    /// The code of a file that is no tape.
     pub fn of_changes(fault: ChangesFault) -> Code
         ensures { IsToldAs result (file_faults.code_of_changes fault) (file_faults.status_of_changes fault) }
     {
@@ -56,7 +56,7 @@ impl Code {
         }
     }
 
-    /// Of the text of a plan.
+    /// The code of a text that is no plan.
     pub fn of_plan_text(fault: PlanTextFault) -> Code
         ensures { IsToldAs result (plan_faults.code_of fault) (plan_faults.status_of fault) }
     {
@@ -67,7 +67,7 @@ impl Code {
         }
     }
 
-    /// Of a setup.
+    /// The code of a setup that was refused.
     pub fn of_setup(fault: SetupFault) -> Code
         ensures { IsToldAs result (setup_faults.code_of fault) (setup_faults.status_of fault) }
     {
@@ -84,7 +84,7 @@ impl Code {
         }
     }
 
-    /// Of a board that was not made.
+    /// The code of a board that was not made.
     pub fn of_board(fault: BoardFault) -> Code
         ensures { IsToldAs result (codes "B1") 5 }
     {
@@ -93,7 +93,7 @@ impl Code {
         }
     }
 
-    /// Of an answer that was not printed.
+    /// The code of an answer that was not printed.
     pub fn of_show(fault: ShowFault) -> Code
         ensures { IsToldAs result (code_of_show fault) (status_of_show fault) }
     {
@@ -103,7 +103,7 @@ impl Code {
         }
     }
 
-    /// Of times, or of the file of symbols.
+    /// The code of a fault of times, or of the file of symbols.
     pub fn of_times(fault: TimesFault) -> Code
         ensures { IsToldAs result (code_of_times fault) (status_of_times fault) }
     {

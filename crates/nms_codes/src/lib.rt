@@ -1,4 +1,5 @@
-//! The codes of faults: what each is printed as, with which status a call ends by it, what it says and what to do about it.
+//! The codes of faults. For each it is known how it is printed, with which status a call ends, what it means and what to do
+//! about it.
 #![tactic(auto)]
 
 mod code;

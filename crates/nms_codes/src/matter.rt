@@ -1,32 +1,32 @@
-//! What a code speaks of.
+//! The matter that a code is about.
 ghost use Rattle.std.specs.Prelude.{◌≡◌};
 ghost use Rattle.nms_codes.specs.Codes.{names_a_word, status_of_matter};
 
-/// What a code speaks of.
+/// The matter that a code is about.
 #[derive(Clone, Copy, Debug, PartialEq, Eq)]
 pub enum Matter {
-    /// A record or the text of a plan: `explain` shows where it stands.
+    /// A record or the text of a plan. `explain` shows its place.
     Record,
-    /// Whatever else a file says: a length, an order, times.
+    /// Something else in a file: a length, an order, times.
     Content,
     /// A setup.
     Setup,
     /// A mapping, or the columns that it names.
     Mapping,
-    /// The words of the call.
+    /// The arguments of the call.
     Words,
     /// A file that could not be read.
     Input,
-    /// The output: no file that is read.
+    /// The output, which is no file that is read.
     Output,
-    /// Memory: no file.
+    /// Memory, which is no file.
     Memory,
-    /// A whole import that is doubtful.
+    /// An import that is doubtful as such.
     Import,
 }
 
 impl Matter {
-    /// The exit status of a call that ends by it, 1 to 7.
+    /// The exit status of a call that ends with it, 1 to 7.
     pub fn status(self) -> u8
         ensures { result ≡ status_of_matter self }
     {
@@ -40,7 +40,7 @@ impl Matter {
         }
     }
 
-    /// Whether a word of the call is to blame, or the file that it names.
+    /// Whether an argument of the call is to blame, or the file that it names.
     pub fn is_of_a_word(self) -> bool
         ensures { result ≡ names_a_word self }
     {

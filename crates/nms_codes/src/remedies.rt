@@ -1,11 +1,11 @@
-//! What to do about each code, as docs/ERRORS.md says it.
+//! What to do about each code, in the words of docs/ERRORS.md.
 ghost use Rattle.std.specs.Prelude.{◌≡◌, true};
 ghost use Rattle.nms_show.specs.Plain.{is_plain};
 
 use crate::code::Code;
 
 impl Code {
-    /// What to do about it.
+    /// What to do about the code.
     pub fn remedy(self) -> &'static str
         ensures { is_plain result.now ≡ true }
     {

@@ -1,11 +1,11 @@
-//! What each code says.
+//! The meaning of each code, as a sentence.
 ghost use Rattle.std.specs.Prelude.{◌≡◌, true};
 ghost use Rattle.nms_show.specs.Plain.{is_plain};
 
 use crate::code::Code;
 
 impl Code {
-    /// What it says, in a sentence: of the word or the file that stands before it, if one does.
+    /// The meaning of the code, in a sentence. It is about the argument or the file before it, if there is one.
     pub fn sentence(self) -> &'static str
         ensures { is_plain result.now ≡ true }
     {

@@ -1,4 +1,4 @@
--- What a request had written when it failed, from the line that was cut short to the words that asked for it.
+-- What a request had written when it failed, from the line that was cut short to the arguments that asked for it.
 use Rattle.std.proofs.Common.{ℕ, ◌≡◌, List, inl, inr, refl, sym, subst}
 use Rattle.std.specs.Prelude.{◌≢◌, Bool, true, false, Option, Some, Result, Ok, Err, IfErr}
 use Rattle.std.specs.Io.KnownBytes.{Appends, append_known}
@@ -180,7 +180,7 @@ stopped_by sub.Check why asked settings input old new is said apart stops =
     inl (request_cut sub.Check why asked settings input old new is said stops)
 stopped_by sub.Live why asked settings input old new is said apart stops = absurd (apart refl)
 
--- what the words ask for, and failed
+-- what the arguments ask for, and failed
 asked_stopped : (why : CommandFault) (words : List (List ℕ)) (asked : Asked) (input old new : Option (List ℕ))
     → asked_by words ≡ Some asked → IsStopped asked input old new why → AreStopped words input old new why
 asked_stopped why words asked input old new is (inl cut) =

@@ -1,6 +1,6 @@
--- What a request had written when it failed. A script is answered record by record, so its first records were answered. Any other
--- request writes its answer when the answer is whole: so nothing of it was written, or, if the writer failed, a prefix. This
--- product's own rule.
+-- What a request had written when it failed. A script is answered record by record, so its first records were answered. Any
+-- other request writes its answer when the answer is complete. So nothing of it was written, or a prefix if the writer failed.
+-- This product's own rule.
 use Rattle.std.specs.Prelude.{ℕ, ◌≡◌, ◌⊎◌, Bool, true, false, List, Option, Some}
 use Rattle.nms_fees.specs.Settings.{Settings}
 use Rattle.nms_lines.specs.Written.{WritesPart}
@@ -26,7 +26,7 @@ is_write_fault (fault.Report report_fault.WriteFault) = true
 is_write_fault (fault.Plan (plan_fault.Text text_fault.WriteFault)) = true
 is_write_fault _ = false
 
--- if the writer failed, a prefix of the whole was written; if anything else failed, nothing was
+-- if the writer failed, a prefix of the answer was written; if anything else failed, nothing was
 abbrev pub LeavesPart : (Option (List ℕ) → Type 0) → Option (List ℕ) → Option (List ℕ) → Bool → Type 0
 LeavesPart Whole old new true = WritesPart Whole old new
 LeavesPart Whole old new false = new ≡ old
@@ -59,7 +59,7 @@ abbrev pub IsStopped : Asked → Option (List ℕ) → Option (List ℕ) → Opt
 IsStopped asked input old new why =
     CutsShort (λ whole ends. Meets asked input old whole (step.Ended ends)) old new why ⊎ IsScriptStopped asked input old new why
 
--- what had been written when what the words ask for failed: the request that they are, or help
+-- what had been written when what the arguments ask for failed: the request that they are, or help
 abbrev pub AreStopped : List (List ℕ) → Option (List ℕ) → Option (List ℕ) → Option (List ℕ) → CommandFault → Type 0
 AreStopped words input old new why =
     CutsShort (λ whole ends. AreMet words input old whole (step.Ended ends)) old new why

@@ -16,8 +16,8 @@ AreOrdersOfSome settings orders = (bytes : Option (List ℕ)) × AreFileOrders s
 abbrev pub most_feed_bytes : ℕ
 most_feed_bytes = 1000000000
 
--- why the input of a live run was not read, if the words name this many files: it is not the file of orders and one file for
--- each feed; or a line of the orders is refused; or a file could not be read, or is too long; or memory ran out
+-- why the input of a live run was not read, if the arguments name this many files: it is not the file of orders and one file for
+-- each feed; or a line of the orders is refused; or a file could not be read, or is too long; or out of memory
 abbrev pub IsNotGiven : Settings → ℕ → CommandFault → Type 0
 IsNotGiven settings files fault.Usage = files ≢ 1 + settings.feeds
 IsNotGiven settings files (fault.Orders why) = (bytes : Option (List ℕ)) × IsOrdersFault settings bytes why

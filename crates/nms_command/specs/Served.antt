@@ -28,7 +28,7 @@ Reports settings own old new =
     (bytes : Option (List ℕ)) × (sym : ℕ) × (place_in settings.roster.syms (field own 1) ≡ Some sym)
     × ReportsFile settings bytes sym old new
 
--- the order that is asked for: by the words after the first and by the options
+-- the order that is asked for: by the arguments after the first and by the options
 abbrev pub asked_order : Settings → Asked → Option Terms
 asked_order settings asked =
     order_asked settings.roster (field asked.own 1) (field asked.own 2) (field asked.own 3) (field asked.own 4) asked.manual asked.self_help
@@ -54,12 +54,12 @@ Serves sub.Live settings asked input old new ends = ⊥
 abbrev pub IsSetup : Settings → Type 0
 IsSetup settings = (bytes : List ℕ) × IsSetupOf bytes settings
 
--- the bytes of a file give no setup, or memory ran out
+-- the bytes of a file give no setup, or out of memory
 abbrev pub Refuses : List ℕ → CommandFault → Type 0
 Refuses bytes (fault.Setup why) = why ≢ setup_fault.NoMemory → IsRefused bytes why
 Refuses bytes _ = ⊥
 
--- why there is no setup: some bytes give none; or their file could not be read; or memory ran out
+-- why there is no setup: some bytes give none; or their file could not be read; or out of memory
 abbrev pub IsNoSetup : CommandFault → Type 0
 IsNoSetup (fault.Setup why) = (bytes : List ℕ) × Refuses bytes (fault.Setup why)
 IsNoSetup fault.Unreadable = ⊤

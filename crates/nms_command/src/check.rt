@@ -1,4 +1,4 @@
-//! The subcommand `check`: whether a plan is confirmed on the changes of a file (specs/Check).
+//! The subcommand `check`, which finds whether a plan is confirmed on the changes of a file (specs/Check).
 ghost use Rattle.std.specs.Prelude.{◌≡◌, ◌<◌, ◌≤◌, ◌++◌, ◌∷◌, [], All, IfErr, IfOk, length, true};
 ghost use Rattle.std.specs.Io.KnownBytes.{Appends};
 ghost use Rattle.nms_quote.specs.Roster.{holds, sizes_of};
@@ -35,7 +35,7 @@ pub(crate) fn serve_check<T: Files + AllocGlobal, W: Write>(
     let [changes, plan] = words else {
         return Err(CommandFault::Usage);
     };
-    // Both files are read before a line of either is judged.
+    // Both files are read before any of their lines is judged.
     let text = read_file(rt, plan.as_str())?;
     let source = open_file(rt, changes.as_str())?;
     check_text(rt.alloc(), setup, source, &text, answers)
@@ -116,7 +116,7 @@ fn tell_finding<W: Write>(
     }
 }
 
-/// Reports the code of a doubt; for a breach its own code follows.
+/// Reports the code of a doubt. After a breach its own code follows.
 fn tell_doubt<W: Write>(answers: &mut W, doubt: Doubt) -> Result<Ending, CommandFault>
     ensures told { IfOk result (λ ends. (ends ≡ Ending.NotConfirmed) × Appends (W.contents answers.old) (W.contents answers.new) (record_text (doubt_record doubt))) }
     ensures cut { IfErr result (CutsShort (λ whole ends. (ends ≡ Ending.NotConfirmed) × Appends (W.contents answers.old) whole (record_text (doubt_record doubt))) (W.contents answers.old) (W.contents answers.new)) }
@@ -129,7 +129,7 @@ fn tell_doubt<W: Write>(answers: &mut W, doubt: Doubt) -> Result<Ending, Command
     }
 }
 
-/// Reports a line, and so how the request ends.
+/// Reports a line, which decides how the request ends.
 fn tell_line<W: Write>(
     answers: &mut W,
     head: &str,

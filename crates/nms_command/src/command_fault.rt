@@ -12,9 +12,9 @@ use nms_words::WordsFault;
 /// Why a request was not served. Only its code is printed, so it has no `Debug`, which would cost seconds of each build.
 #[derive(Drop)]
 pub enum CommandFault {
-    /// The parser refused the words.
+    /// The parser refused the arguments.
     Words(WordsFault),
-    /// A word is no UTF-8, or names nothing, or is no field of an order.
+    /// An argument is not UTF-8, or names nothing, or is no field of an order.
     Usage,
     /// A file could not be read.
     Unreadable,
@@ -39,8 +39,7 @@ pub enum CommandFault {
 }
 
 impl CommandFault {
-    /// The exit status: 1 for streams and files, 2 for words, 3 for the setup, 5 for memory, 6 for lines,
-    /// plans and lengths.
+    /// The exit status: 1 for streams and files, 2 for arguments, 3 for the setup, 5 for memory, 6 for lines, plans and lengths.
     pub fn status(&self) -> u8
         ensures { result ≡ status_of self.now }
     {

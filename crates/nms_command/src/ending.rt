@@ -5,7 +5,7 @@ ghost use Rattle.nms_command.specs.Statuses.{status_of_ending};
 /// How a served request ends.
 #[derive(Clone, Copy, PartialEq, Eq)]
 pub enum Ending {
-    /// All that was asked for was done; for a plan, it is confirmed.
+    /// Everything that was asked for was done. A plan that was asked about is confirmed.
     Done,
     /// A plan was judged and is not confirmed.
     NotConfirmed,

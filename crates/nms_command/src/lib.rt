@@ -1,4 +1,4 @@
-//! The quote board's command line without live runs: words, files and streams in, answers and an ending out.
+//! The quote board's command line without live runs. It takes arguments, files and streams, and gives answers and an ending.
 #![tactic(auto)]
 
 mod check;

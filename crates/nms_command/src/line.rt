@@ -1,4 +1,4 @@
-//! Texts written and flushed.
+//! Writing and flushing texts.
 ghost use Rattle.std.specs.Prelude.{◌++◌, ◌∷◌, [], OnErr, OnOk};
 ghost use Rattle.std.specs.Io.KnownBytes.{Appends};
 ghost use Rattle.nms_lines.specs.Written.{AppendsPart};
@@ -7,8 +7,8 @@ use nms_lines::write_text;
 use std::io;
 use std::io::Write;
 
-/// Writes two texts, one after the other, and the end of a line, and flushes them. A failure leaves a prefix of that
-/// written, and nothing else.
+/// Writes two texts, one after the other, and the end of a line, and flushes them. After a failure only a prefix of that was
+/// written.
 pub fn write_line<W: Write>(writer: &mut W, head: &str, code: &str) -> io::Result<()>
     ensures written { OnOk result (Appends (W.contents writer.old) (W.contents writer.new) (head.now ++ (code.now ++ 10 ∷ []))) }
     ensures part { OnErr result (AppendsPart (W.contents writer.old) (W.contents writer.new) (head.now ++ (code.now ++ 10 ∷ []))) }
@@ -19,7 +19,7 @@ pub fn write_line<W: Write>(writer: &mut W, head: &str, code: &str) -> io::Resul
     writer.flush()
 }
 
-/// Writes a text, and flushes it. A failure leaves a prefix of it written, and nothing else.
+/// Writes a text, and flushes it. After a failure only a prefix of it was written.
 pub fn write_whole<W: Write>(writer: &mut W, text: &str) -> io::Result<()>
     ensures written { OnOk result (Appends (W.contents writer.old) (W.contents writer.new) text.now) }
     ensures part { OnErr result (AppendsPart (W.contents writer.old) (W.contents writer.new) text.now) }

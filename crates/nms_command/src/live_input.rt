@@ -1,4 +1,4 @@
-//! What a live run is given: the files that the words of `live` name.
+//! What a live run is given: the files that the arguments of `live` name.
 ghost use Rattle.std.specs.Prelude.{◌≡◌, ◌≢◌, ◌<◌, ◌≤◌, ◌+◌, ℕ, All, Err, IfErr, IfOk, length};
 ghost use Rattle.nms_fees.specs.Settings.{Settings};
 ghost use Rattle.nms_command.specs.LiveFiles.{AreOrdersOfSome, IsNotGiven, most_feed_bytes};
@@ -24,8 +24,8 @@ pub struct LiveInput {
     pub orders: Vec<DeskOrder>,
 }
 
-/// Reads the files of a live run: the file of orders, and one file for each feed of the setup. Other numbers of files are
-/// refused as `usage`.
+/// Reads the files of a live run: the file of orders, and one file for each feed of the setup. If the number of files is
+/// another, they are refused as `usage`.
 ///
 /// The feeds are read before a line of an order is judged.
 pub fn read_live_input<T: Files + AllocGlobal>(

@@ -16,7 +16,7 @@ use nms_words::Request;
 use std::io::Write;
 use std::rt::Files;
 
-/// Writes the plan of the order that the words say, on all the changes of a file, with its certificate.
+/// Writes the plan of the order that the arguments give, on all the changes of a file, with its certificate.
 pub(crate) fn serve_plan<T: Files + AllocGlobal, W: Write>(
     rt: &T,
     setup: &Setup,
@@ -42,7 +42,7 @@ pub(crate) fn serve_plan<T: Files + AllocGlobal, W: Write>(
     }
 }
 
-/// The order that a request asks for, by its words after the first and by its options.
+/// The order that a request asks for, by its arguments after the first and by its options.
 fn order_asked(setup: &Setup, request: &Request) -> Option<Order>
     ensures asked { IfSome result (λ order. asked_order setup.now (shown request.now) ≡ Some order) }
     ensures there { IfSome result (λ order. order.sym < length setup.now.roster.syms) }

@@ -1,4 +1,4 @@
-//! The words that the process was started with.
+//! The arguments with which the process was started.
 ghost use Rattle.std.specs.Prelude.{◌≡◌, IfErr, IfOk, map};
 ghost use Rattle.std.specs.String.{string_bytes};
 ghost use Rattle.nms_command.specs.Unread.{AreUnread};
@@ -10,8 +10,8 @@ use std::env;
 use std::io::ErrorKind;
 use std::rt::Env;
 
-/// Takes the words after the program's name. If they can't be taken, the fault is G2 if there was no memory, else `usage`: a
-/// word that is not UTF-8 names nothing.
+/// Takes the arguments after the program's name. If they can't be taken, the fault is G2 if there was no memory, else `usage`,
+/// because an argument that is not UTF-8 names nothing.
 pub fn own_words<T: AllocGlobal + Env>(rt: &T) -> Result<Vec<String>, CommandFault>
     ensures refused { IfErr result AreUnread }
 {
@@ -29,7 +29,7 @@ pub fn own_words<T: AllocGlobal + Env>(rt: &T) -> Result<Vec<String>, CommandFau
     Ok(words)
 }
 
-/// Why the words could not be taken.
+/// Why the arguments could not be taken.
 fn no_words(kind: ErrorKind) -> CommandFault
     ensures { AreUnread result }
 {
@@ -40,7 +40,7 @@ fn no_words(kind: ErrorKind) -> CommandFault
     }
 }
 
-/// Lends the words, in order. The fault is G2 if there is no memory for the list of them.
+/// Borrows the arguments, in order. The fault is G2 if there is no memory for the list of them.
 pub fn lend_words<'a>(alloc: Global, own: &'a [String]) -> Result<Vec<&'a str>, CommandFault>
     ensures lent { IfOk result (λ words. map (λ word. word.now) words.items ≡ map string_bytes own.now) }
     ensures refused { IfErr result (λ fault. fault ≡ CommandFault.Words WordsFault.NoMemory) }

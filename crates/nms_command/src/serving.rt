@@ -1,4 +1,4 @@
-//! The service of a request of any subcommand but `live` (specs/Served).
+//! Serving a request of any subcommand but `live` (specs/Served).
 ghost use Rattle.std.specs.Prelude.{◌≡◌, ◌≢◌, IfErr, IfOk, Ok, OnOk, map};
 ghost use Rattle.std.specs.Io.KnownBytes.{Appends};
 ghost use Rattle.std.specs.String.{string_bytes};
@@ -24,8 +24,8 @@ use std::rt::Files;
 
 /// Serves a request of any subcommand but `live` under a setup, with the script on `input`.
 ///
-/// If it fails, the first records of a script were answered. Of any other request nothing was written or, if the writer failed, a
-/// first part of the answer.
+/// If it fails, the first records of a script were answered. For any other request nothing was written, or a prefix of the
+/// answer if the writer failed.
 pub fn serve<T: Files + AllocGlobal, R: Read, W: Write>(
     rt: &T,
     setup: &Setup,

@@ -1,12 +1,12 @@
-//! What the words of the command line came to, before a live run.
+//! What the arguments of the command line asked for, before a live run.
 use crate::ending::Ending;
 use crate::live_input::LiveInput;
 use nms_fees::Setup;
 
-/// What the words of the command line came to, before a live run.
+/// What the arguments of the command line asked for, before a live run.
 #[derive(Drop)]
 pub enum Step {
-    /// What they ask for was done, and so it ended.
+    /// What they ask for was done, so the call ended.
     Ended(Ending),
     /// They ask for a live run, which is still to be made.
     Live {

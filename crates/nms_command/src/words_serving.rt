@@ -1,4 +1,4 @@
-//! The words of the command line, served up to a live run (specs/Steps).
+//! Serving the arguments of the command line, up to a live run (specs/Steps).
 ghost use Rattle.std.specs.Prelude.{◌≢◌, IfErr, IfOk, map};
 ghost use Rattle.nms_words.specs.CommandLine.{shown};
 ghost use Rattle.nms_command.specs.Failed.{AreStopped, IsStopped};
@@ -14,11 +14,11 @@ use nms_words::{Request, Sub, WordsFault, read_words};
 use std::io::{Read, Write};
 use std::rt::Files;
 
-/// Does what the words ask for, with the script on `input`, or shows the help that they ask for. Of a live run it only reads the
-/// setup and the files, and gives them.
+/// Does what the arguments ask for, with the script on `input`, or shows the help that they ask for. For a live run it only
+/// reads the setup and the files, and gives them.
 ///
-/// If it fails, the first records of a script were answered. Of anything else nothing was written or, if the writer failed, a
-/// first part.
+/// If it fails, the first records of a script were answered. For anything else nothing was written, or a prefix if the writer
+/// failed.
 pub fn serve_words<T: Files + AllocGlobal, R: Read, W: Write>(
     rt: &T,
     words: &[&str],

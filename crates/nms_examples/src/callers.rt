@@ -1,5 +1,5 @@
-//! Callers of these crates as another repository writes them; `docs/CALLING.md` shows all but `again`, which
-//! `tests/hostile.py` runs with memory refused. Here each is called once.
+//! Callers of these crates as another repository writes them. `docs/CALLING.md` shows all but `again`, which `tests/hostile.py`
+//! runs while memory is refused. Here each is called once.
 mod again;
 mod board;
 mod machine;
@@ -19,7 +19,7 @@ use std::io::Write;
 use std::sync::Wait;
 use std::thread::Threads;
 
-/// What a line asks of a call.
+/// What a line asks for.
 #[derive(Clone, Copy)]
 struct Asked<'a> {
     setup: &'a Setup,
@@ -87,7 +87,7 @@ fn tell_machine(alloc: Global, asked: &Asked<'_>, given: &mut Vec<u8>) -> Result
     )
 }
 
-/// That many changes.
+/// The given number of changes.
 fn changes_of(alloc: Global, count: u32) -> Result<Vec<Change>, Failed> {
     // The prover has to see the types of a change before the change moves, so the code mentions them.
     let _seen: Option<SideQuote> = None;

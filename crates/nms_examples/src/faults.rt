@@ -37,7 +37,7 @@ fn tell<V: Display>(given: &mut Vec<u8>, faults: &[V]) -> Result<(), Failed> {
     Ok(())
 }
 
-/// Adds those of numbers, of rosters and of the words of a call.
+/// Adds the texts of faults of numbers, of rosters and of the arguments of a call.
 fn tell_numbers(given: &mut Vec<u8>) -> Result<(), Failed> {
     tell(given, &[UnitFault::BadPrice, UnitFault::ZeroPrice])?;
     tell(given, &[UnitFault::BadShares, UnitFault::BadMoney])?;
@@ -46,7 +46,7 @@ fn tell_numbers(given: &mut Vec<u8>) -> Result<(), Failed> {
     tell(given, &[WordsFault::NoMemory])
 }
 
-/// Adds those of records, their lines and the texts of plans.
+/// Adds the texts of faults of records, their lines and the texts of plans.
 fn tell_records(given: &mut Vec<u8>) -> Result<(), Failed> {
     tell(given, &[RecordFault::Failed, RecordFault::NoMemory])?;
     tell(given, &[LineFault::UnknownKind, LineFault::FieldCount])?;
@@ -59,7 +59,7 @@ fn tell_records(given: &mut Vec<u8>) -> Result<(), Failed> {
     tell(given, &[PlanTextFault::NoMemory, PlanTextFault::WriteFault])
 }
 
-/// Adds those of setups.
+/// Adds the texts of faults of setups.
 fn tell_setups(given: &mut Vec<u8>) -> Result<(), Failed> {
     tell(given, &[SetupFault::NotToml, SetupFault::Missing])?;
     tell(given, &[SetupFault::UnknownKey, SetupFault::BadName])?;
@@ -68,7 +68,7 @@ fn tell_setups(given: &mut Vec<u8>) -> Result<(), Failed> {
     tell(given, &[SetupFault::NoMemory])
 }
 
-/// Adds those of the machine and of its scripts.
+/// Adds the texts of faults of the machine and of its scripts.
 fn tell_machine(given: &mut Vec<u8>) -> Result<(), Failed> {
     tell(given, &[FlowFault::NoMemory])?;
     tell(given, &[StepFault::QueueFull, StepFault::QueueEmpty])?;
@@ -77,7 +77,7 @@ fn tell_machine(given: &mut Vec<u8>) -> Result<(), Failed> {
     tell(given, &[ScriptFault::TooLong, ScriptFault::NoMemory])
 }
 
-/// Adds those of files of changes, reports and audits.
+/// Adds the texts of faults of files of changes, reports and audits.
 fn tell_files(given: &mut Vec<u8>) -> Result<(), Failed> {
     for fault in [
         ChangesFault::Record(RecordFault::Failed),
@@ -95,7 +95,7 @@ fn tell_files(given: &mut Vec<u8>) -> Result<(), Failed> {
     )
 }
 
-/// Adds those of live runs and their files.
+/// Adds the texts of faults of live runs and their files.
 fn tell_live(given: &mut Vec<u8>) -> Result<(), Failed> {
     for fault in [RecordFault::Failed, RecordFault::NoMemory] {
         tell(given, &[OrdersFault::Record(fault)])?;

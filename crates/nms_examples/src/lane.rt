@@ -1,4 +1,4 @@
-//! The lane: one to eight threads send changes, one more takes them.
+//! The lane: one to eight threads send changes, and one more takes them.
 ghost use Rattle.std.specs.Prelude.{◌≡◌, ℕ, ◌<◌, ◌≤◌, [], All, length, slice_index_or, IfSome};
 ghost use Rattle.nms_quote.specs.declared.TheConstants.{MOST_FEEDS};
 ghost use Rattle.nms_feed.specs.Lane.{AreSendersOf, Sending};
@@ -15,8 +15,8 @@ use std::sync::atomic::{AtomicBool, Ordering};
 use std::thread;
 use std::thread::Threads;
 
-/// Runs a lane, as the capacity, the senders and the changes of each in a line say. Adds how many changes each sent, and how many
-/// were taken.
+/// Runs a lane. A line says its capacity, the number of senders, and the changes of each. Adds how many changes each sent, and
+/// how many were taken.
 pub(crate) fn give_lane<R: AllocGlobal + Threads + Wait + Sync>(
     rt: &R,
     sizes: &str,
@@ -53,7 +53,7 @@ fn measure<R: AllocGlobal + Threads + Wait + Sync>(
     }
 }
 
-/// Sends n changes from each sender of a new lane, each in a thread of its own, and takes them meanwhile.
+/// Sends n changes from each sender of a new lane, each in its own thread, and takes them meanwhile.
 fn run<R: Threads + Wait + Sync>(
     rt: &R,
     senders: Vec<Sender>,
@@ -87,7 +87,7 @@ fn run<R: Threads + Wait + Sync>(
     or_failed(close(back, taker))
 }
 
-/// Sends a change n times from each sender, each in a thread of its own. `None` if out of memory.
+/// Sends a change n times from each sender, each in its own thread. `None` if out of memory.
 fn send_from_each<R: Threads + Wait + Sync>(
     rt: &R,
     senders: Vec<Sender>,
@@ -137,7 +137,7 @@ fn take_all<R: Wait>(rt: &R, mut taker: Taker, ended: &AtomicBool) -> Taker
         if has_ended {
             break;
         }
-        // Changes sent before the end are still taken.
+        // The end is read before the lane, so that changes sent before it are still taken.
         has_ended = ended.load(Ordering::SeqCst);
         thread::yield_now();
     }

@@ -1,9 +1,9 @@
-//! Texts that are read, and what is added to an answer. What fails on the way is no more than failed.
+//! Reading texts, and adding to an answer. Any failure on the way is `Failed`.
 
 use crate::Failed;
 use std::str;
 
-/// What a call gave, whatever the fault is if it failed.
+/// What a call gave; `Failed` for any fault.
 pub(crate) fn or_failed<V, E: Drop>(came_to: Result<V, E>) -> Result<V, Failed> {
     match came_to {
         Ok(value) => Ok(value),
@@ -24,12 +24,12 @@ pub(crate) fn text_of(bytes: &[u8]) -> Result<&str, Failed> {
     or_failed(str::from_utf8(bytes))
 }
 
-/// What stands before the first such mark in a text, and what stands after it.
+/// The texts before and after the first mark of this kind in a text.
 pub(crate) fn around<'a>(text: &'a str, mark: &str) -> Result<(&'a str, &'a str), Failed> {
     some_or_failed(text.split_once(mark))
 }
 
-/// What stands before the next answer of a run: nothing before the first one.
+/// The text before the next answer of a run: empty before the first one.
 pub(crate) fn gap_after(given: &[u8]) -> &'static str {
     if given.is_empty() { "" } else { "; " }
 }

@@ -16,7 +16,7 @@ use std::thread;
 use std::thread::Threads;
 use std::time::Duration;
 
-/// The first 3,200 changes fill the board of the wide setup.
+/// The first 3,200 changes, in this number of batches, fill the board of the wide setup.
 const BATCHES_TO_FILL: u32 = 50;
 
 const BATCH: u32 = 64;
@@ -30,8 +30,8 @@ struct Seat {
     _apart: [u64; 16],
 }
 
-/// Looks from desks, as their number and that of the looks of each in a line say: each in a thread of its own, at a row of each side.
-/// Adds how many rows were right.
+/// Looks from desks, each in its own thread, at a row of each side. A line says how many desks there are and how many looks
+/// each makes. Adds how many rows were right.
 pub(crate) fn give_looks<R: AllocGlobal + Threads + Wait + Clock + Sync>(
     rt: &R,
     sizes: &str,
@@ -45,7 +45,7 @@ pub(crate) fn give_looks<R: AllocGlobal + Threads + Wait + Clock + Sync>(
     or_failed(write!(given, "{rows}"))
 }
 
-/// Opens, fills the board, and looks beside the publisher.
+/// Opens a tape, fills the board, and looks while the publisher goes on.
 fn run<R: Threads + Wait + Clock + Sync>(
     rt: &R,
     alloc: Global,
@@ -58,7 +58,7 @@ fn run<R: Threads + Wait + Clock + Sync>(
     }
 }
 
-/// As above, if all is open. The publisher is closed at the end.
+/// As `run`, if everything is open. The publisher is closed at the end.
 fn run_open<R: Threads + Wait + Clock + Sync>(
     rt: &R,
     alloc: Global,
@@ -93,7 +93,7 @@ fn look_from_each<R: Threads + Wait + Clock + Sync>(
     look_beside(rt, publisher, number, seats, looks);
 }
 
-/// How many rows were right, of all seats.
+/// How many rows were right, for all seats together.
 fn rows_of(seats: &[Seat]) -> u64 {
     let mut rows = 0u64;
     for seat in seats {
@@ -150,7 +150,7 @@ fn look_often(seat: &mut Seat, looks: u32) {
     }
 }
 
-/// 1 if the row of that number on a side is that of the participant at the place.
+/// 1 if the row with that number on a side is that of the participant at the place.
 fn rows_at(view: &View, side: Side, place: u64) -> u64 {
     match view.rows(side).get(place as usize) {
         Some(row) if u64::from(row.part.get()) == place => 1,
@@ -174,7 +174,7 @@ fn publish_until<R: Wait + Clock>(
     }
 }
 
-/// Appends a batch and publishes it, unless the tape is full or memory runs out.
+/// Appends a batch and publishes it, unless the tape is full or it is out of memory.
 fn publish_batch<R: Wait>(rt: &R, publisher: &mut Publisher, number: &mut u64) -> bool {
     for _ in 0..BATCH {
         let Some(change) = quotation(*number) else {

@@ -1,6 +1,6 @@
-//! Makes the run that each line of standard input names, and writes the line with what it came to: loads for benchmarks, the
-//! callers of `docs/CALLING.md`, and trials of what no other program shows. A run that fails ends it. `tests/README.md` has the
-//! kinds of lines. The gate compares what it writes on `stdin` with `stdout`, byte for byte.
+//! Makes the run that each line of standard input names, and writes the line with the result. There are loads for benchmarks,
+//! the callers of `docs/CALLING.md`, and trials of what no other program shows. A run that fails ends it. `tests/README.md` has
+//! the kinds of lines. The gate compares its output for `stdin` with `stdout`, byte for byte.
 #![tactic(auto)]
 
 mod callers;
@@ -52,7 +52,7 @@ where
     Ok(())
 }
 
-/// Makes the run of a line, and writes the line with what it came to.
+/// Makes the run of a line, and writes the line with the result.
 fn run_line<T, W>(rt: &T, line: &str, answers: &mut W) -> Result<(), Failed>
 where
     T: AllocGlobal + Eprint + Threads + Wait + Clock + Sync,
@@ -65,7 +65,7 @@ where
     }
 }
 
-/// Makes the run of a line, and adds what it came to.
+/// Makes the run of a line, and adds the result.
 fn give<T>(rt: &T, line: &str, given: &mut Vec<u8>) -> Result<(), Failed>
 where
     T: AllocGlobal + Eprint + Threads + Wait + Clock + Sync,

@@ -26,7 +26,7 @@ pub(crate) fn apply_offer(board: &mut Boards, place: u8, state: QState, price: u
     }
 }
 
-/// The change of that number: each participant of the wide setup quotes each symbol in turn, with other shares each time round.
+/// The change with that number. Each participant of the wide setup quotes each symbol in turn, with other shares in each round.
 pub(crate) fn quotation(number: u64) -> Option<Change> {
     let price = Price::new(100_000)?;
     let shares = Shares::new(100 * (1 + number / (PARTICIPANTS * SYMBOLS) % 9) as u32)?;

@@ -9,7 +9,7 @@ use std::alloc::{AllocError, Global};
 /// The participants of the wide setup.
 pub(crate) const PARTICIPANTS: u64 = 16;
 
-/// Its symbols.
+/// The symbols of the wide setup.
 pub(crate) const SYMBOLS: u64 = 200;
 
 /// The built-in setup.
@@ -24,7 +24,7 @@ pub(crate) fn wide(alloc: Global, tape: u32, queue: u16, desks: u8) -> Result<Se
     or_failed(read_setup(alloc, text.as_str()))
 }
 
-/// Writes it.
+/// Writes the text of the wide setup.
 fn write_wide(text: &mut String, tape: u32, queue: u16, desks: u8) -> Result<(), AllocError> {
     write!(
         text,

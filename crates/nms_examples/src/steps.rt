@@ -1,4 +1,4 @@
-//! The machine over steps without text.
+//! Running the machine by steps without text.
 
 use crate::Failed;
 use crate::lines::{around, gap_after, or_failed, some_or_failed};
@@ -9,8 +9,8 @@ use nms_quote::{Feed, QState, Side, SideQuote, Sym};
 use std::alloc::Global;
 use std::io::Write;
 
-/// Adds each step of a line with its answer, of a machine that starts empty. Before the steps stand the limits of its tape and of its
-/// queue.
+/// Adds each step of a line with its answer, from a machine that starts empty. Before the steps come the limits of its tape and
+/// of its queue.
 pub(crate) fn give_steps(alloc: Global, line: &str, given: &mut Vec<u8>) -> Result<(), Failed> {
     let (tape, rest) = around(line, " ")?;
     let (queue, steps) = around(rest, " ")?;
@@ -53,7 +53,7 @@ fn sending(feed: Feed, place: u8) -> Option<Step> {
     Some(Step::Send(feed, offer))
 }
 
-/// Makes the step that a word names, or takes all, and adds the answer.
+/// Makes the step that a word names, or takes everything, and adds the answer.
 fn give_step(flow: &mut Flow, word: &str, given: &mut Vec<u8>) -> Result<(), Failed> {
     if word == "all" {
         return or_failed(write!(given, "{}", flow.take_all().code()));
@@ -69,7 +69,7 @@ fn give_step(flow: &mut Flow, word: &str, given: &mut Vec<u8>) -> Result<(), Fai
     tell_reply(flow.step(step), given)
 }
 
-/// Adds an answer: of a view its version and its number of offers, of a refusal its code.
+/// Adds an answer. For a view it is its version and its number of offers, for a refusal its code.
 fn tell_reply(answer: Result<Reply, StepFault>, given: &mut Vec<u8>) -> Result<(), Failed> {
     or_failed(match answer {
         Ok(Reply::Sent) => write!(given, "sent"),

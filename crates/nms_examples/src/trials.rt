@@ -1,5 +1,5 @@
-//! Cases that no call of a program can show: streams that fail in mid-run or count, limits, cutoffs, and plans for another order. If a
-//! call gives a wrong answer, its trial fails and prints the answer on standard error.
+//! Cases that no call of a program can show: streams that fail or count while they are used, limits, cutoffs, and plans for
+//! another order. If a call gives a wrong answer, its trial fails and prints the answer on standard error.
 mod breaches;
 mod cutoffs;
 mod limits;
@@ -43,7 +43,7 @@ pub(crate) fn give_trials<T: AllocGlobal + Eprint>(
     let setup = built_in(rt.alloc())?;
     let came_to = try_part(rt.alloc(), &setup, part);
     let has_passed = came_to.is_ok();
-    // It prints on standard error what failed.
+    // The result is dropped, because this only prints on standard error what failed.
     let _ = came_to.report(rt);
     if !has_passed {
         return Err(Failed);

@@ -16,7 +16,7 @@ pub enum Caps {
 }
 
 impl Caps {
-    /// The cap of a fee at a price of one dollar or more, in nanodollars for a share.
+    /// The cap of a fee at a price of one dollar or more, in nanodollars a share.
     pub fn fee(self) -> u32
         ensures { result ≡ fee_cap self }
     {

@@ -10,10 +10,10 @@ use std::marker::Model;
 
 /// One dollar, in 1/10,000 dollar.
 const ONE_DOLLAR: u64 = 10_000;
-/// The nanodollars in 1/10,000 dollar.
+/// How many nanodollars 1/10,000 dollar has.
 const NANODOLLARS: u64 = 100_000;
 
-/// The access fees of all participants, by place, none over the caps that the book keeps.
+/// The access fees of all participants, by place. None of them is over the caps that the book keeps.
 #[derive(Drop)]
 pub struct FeeBook {
     caps: Caps,

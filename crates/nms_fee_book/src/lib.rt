@@ -1,5 +1,5 @@
-//! What a share costs with the access fees of the participants, and the caps that these fees keep (17 CFR 242.610(c)
-//! as adopted in 2005, or as amended in 2024).
+//! The cost of a share with the participants' access fees, and the caps that these fees keep (17 CFR 242.610(c) as adopted in
+//! 2005, or as amended in 2024).
 #![tactic(auto)]
 
 mod caps;

@@ -36,7 +36,7 @@ lesser_agrees f a b (Some g) (Some h) p q = chosen (nat_le (number_of g) (number
         let lt = lt_from (number_of g) (number_of h) e in
         (λ below. or_from a b (p.0 (omega (arith, lt, below))) (q.0 below), λ same. or_right a b (q.1 same))
 
--- of two places
+-- the same for two places
 pub join : {f : SetupFault} {a b : Bool} {x y : Option SetupFault} → Agrees f a x → Agrees f b y → Agrees f (a || b) (lesser x y)
 join {f} {a} {b} {x} {y} p q = record { told = lesser_agrees f a b x y p.told q.told }
 

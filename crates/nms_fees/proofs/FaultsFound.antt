@@ -322,7 +322,7 @@ module _ (chosen : Choices) (f : SetupFault) (s : Section) where
       (on f fault.BadName (has_repeat (filter_map name_in rows)))) (each_agrees rows))
   array_agrees (Some value) = join (on_each f (array_on (Some value))) (nothing f)
 
--- ---- the whole document
+-- ---- the complete document
 
 module _ (document : Members) where
   abbrev chosen : Choices

@@ -43,7 +43,7 @@ or_kept true b c d more h = refl
 or_kept false true c d more h = refl
 or_kept false false c d more h = more h
 
--- a name repeated in the front is repeated in the whole
+-- a name repeated in the front is repeated in the complete list
 pub has_repeat-front : (names more : List Name) → has_repeat names ≡ true → has_repeat (names ++ more) ≡ true
 has_repeat-front [] more h = absurd (false≢true h)
 has_repeat-front (first ∷ names) more h =

@@ -125,7 +125,7 @@ charges_of_row chosen (table members) h =
     record { fee_low = fee.0; fee_cap = fee.1; rate_low = rate.0; rate_cap = rate.1 }
 charges_of_row chosen row h = cc
 
--- a row without a fault names one of the first feeds, as many as there are
+-- a row without a fault names one of the first feeds that the document has
 feed_found : (count : ℕ) (found : Option Data) → option_map_or (feed_fault count) found (Some fault.Missing) ≡ None
     → place_of (feed_of_text (unwrap_or (option_and_then as_str found) [])) < count
 feed_found count None h = cc
@@ -192,7 +192,7 @@ no_place test entries h =
     let past : nat_lt (length entries) (length entries) ≡ false = grind (arith, nat_tests) in
     rw (none_found test entries h, past)
 
--- a name that is there once in all is not among those before it
+-- a name that is there only once is not among those before it
 once_before : (names more : List Name) (name : Name) → has_repeat (names ++ name ∷ more) ≡ false → list_any (bytes_eq name) names ≡ false
 once_before names more name h = (or_false (has_repeat names) (list_any (bytes_eq name) names)
     (sym (has_repeat-push names name) ∙ front_once (has_repeat (names ++ name ∷ [])) refl)).1
@@ -249,7 +249,7 @@ unrefused {Z} chosen s z rows i row entries sound within here before =
     rw count (room_for (most_of s) (length (map view rows)) i found.0 (omega arith)) in
     rw (formed, absent, enough)
 
--- and so it is with all rows of an array without a fault
+-- this holds for all rows of an array without a fault
 each_capped : (chosen : Choices) (rows : List Data) → AllByRecursion (λ row. row_fault chosen section.Participant row ≡ None) rows
     → AreCapped chosen.caps (map schedule_of rows)
 each_capped chosen [] h = All-nil (IsCapped chosen.caps)

@@ -1,4 +1,4 @@
--- A table of a document beside the map that holds it.
+-- A table of a document with the map that holds it.
 use Rattle.std.proofs.Common.{◌≡◌, Bool, ◌||◌, List, [], ◌∷◌, String, Global, string_bytes, map, refl, ap}
 use Rattle.std.specs.List.{list_any}
 use Rattle.std.specs.Map.{keys_of}

@@ -4,7 +4,7 @@ use Rattle.std.specs.Prelude.{codes, ℕ, nat_le, List, fold, Option, Some, None
 use Rattle.nms_fees.specs.declared.setup_fault.SetupFault.{SetupFault}
 use Rattle.nms_fees.specs.declared.setup_fault.SetupFault.TheVariants as fault
 
--- the number of a fault: of those that hold of a text, the one of least number is answered
+-- the number of a fault: if several hold for a text, the one of least number is answered
 abbrev pub number_of : SetupFault → ℕ
 number_of fault.NotToml = 1
 number_of fault.Missing = 2
@@ -33,7 +33,7 @@ abbrev pub status_of : SetupFault → ℕ
 status_of fault.NoMemory = 5
 status_of _ = 3
 
--- of two findings, the fault with the smaller number
+-- the fault with the smaller number of two findings
 abbrev pub lesser : Option SetupFault → Option SetupFault → Option SetupFault
 lesser None found = found
 lesser (Some first) None = Some first

@@ -1,4 +1,4 @@
--- The law of reading a text: of the faults that hold, the one of least number is answered. This product's own rule.
+-- The law about reading a text: among the faults that hold, the one of least number is answered. This product's own rule.
 use Rattle.std.specs.Prelude.{◌≡◌, ◌<◌, ◌↔◌, true, false, IsOk, Err, codes, ◌++◌}
 use Rattle.std.specs.Fmt.{decimal}
 use Rattle.nms_quote.specs.Roster.{Name}

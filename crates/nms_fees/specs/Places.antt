@@ -198,7 +198,7 @@ rows_findings chosen rows_of rows =
 abbrev pub rows_fault : Choices → Section → List Data → Option SetupFault
 rows_fault chosen rows_of rows = least (rows_findings chosen rows_of rows)
 
--- no fault is found in an element, or in all of them: for some choices, if they are not given
+-- no fault is found in an element, or in all of them: for some choices, if these are not given
 abbrev pub IsSound : Section → Data → Type 0
 IsSound rows_of row = (chosen : Choices) × (row_fault chosen rows_of row ≡ None)
 
@@ -209,7 +209,7 @@ AreSound rows_of rows = (chosen : Choices) × (rows_fault chosen rows_of rows �
 abbrev pub array_fault : Choices → Section → Data → Option SetupFault
 array_fault chosen rows_of value = option_map_or (rows_fault chosen rows_of) (rows_in value) (Some fault.WrongType)
 
--- what is found in a whole document
+-- what is found in a complete document
 abbrev pub document_findings : Members → List (Option SetupFault)
 document_findings document =
     other_key_fault level.Top document

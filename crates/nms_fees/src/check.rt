@@ -1,4 +1,4 @@
-//! The faults of a setup's document, that of each place and the least of all: `specs/Places`.
+//! Finding the faults of a setup's document, the fault of each place and the least one: `specs/Places`.
 ghost use Rattle.std.specs.Prelude.{codes, ◌≡◌, map, IfOk, IfErr};
 ghost use Rattle.toml.specs.View.{view, table_view};
 ghost use Rattle.nms_fees.specs.Faults.{least, lesser};
@@ -17,7 +17,7 @@ use nms_units::MOST_LOT;
 use std::alloc::Global;
 use toml::{Table, Value};
 
-/// Of two findings, the fault of the smaller number.
+/// The fault of the smaller number of two findings.
 fn lesser(first: Option<SetupFault>, second: Option<SetupFault>) -> Option<SetupFault>
     ensures { result ≡ lesser first second }
 {
@@ -33,7 +33,7 @@ fn lesser(first: Option<SetupFault>, second: Option<SetupFault>) -> Option<Setup
     }
 }
 
-/// Of all findings, the fault of least number.
+/// The fault of least number of all findings.
 fn least(found: &[Option<SetupFault>]) -> Option<SetupFault>
     ensures { result ≡ least found.now }
 {
@@ -79,7 +79,7 @@ pub fn range_fault(value: &Value, low: i64, high: i64) -> Option<SetupFault>
     }
 }
 
-/// The fault of a required fee or rate: up to `most` either way, and not over its cap.
+/// The fault of a required fee or rate. It is at most `most` either way, and not over its cap.
 fn charge_fault(table: &Table, key: &str, most: u32, cap: u32) -> Option<SetupFault>
     ensures { result ≡ key_fault (cap_fault most cap) key.now (table_view table.now) }
 {
@@ -89,7 +89,7 @@ fn charge_fault(table: &Table, key: &str, most: u32, cap: u32) -> Option<SetupFa
     }
 }
 
-/// The fault of a fee or rate: up to `most` either way, and not over its cap (17 CFR 242.610(c)).
+/// The fault of a fee or rate. It is at most `most` either way, and not over its cap (17 CFR 242.610(c)).
 pub fn cap_fault(value: &Value, most: u32, cap: u32) -> Option<SetupFault>
     ensures { result ≡ cap_fault most cap (view value.now) }
 {

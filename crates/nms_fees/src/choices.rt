@@ -11,7 +11,7 @@ use nms_fee_book::Caps;
 use nms_quote::MOST_FEEDS;
 use toml::{Table, Value};
 
-/// What the keys that may be absent choose for the bounds of others.
+/// The choices by which optional keys set the bounds of others.
 #[derive(Clone, Copy)]
 pub struct Choices {
     /// The caps that fees keep: those of 2005 if the document names none.

@@ -1,4 +1,4 @@
-//! A product's setup, read from a TOML document: roster, access fees, limits.
+//! A product's setup, read from a TOML document: the roster, access fees, and limits.
 #![tactic(auto)]
 
 mod check;
@@ -27,7 +27,7 @@ pub use toml_table::{is_participant_key, is_symbol_key, is_top_key, rows_at, row
 
 /// The fewest changes that a setup's queue may hold.
 pub const LEAST_QUEUE: usize = 2;
-/// The most changes that a setup's queue may hold.
+/// The number of feeds if a setup does not say it.
 pub const MOST_QUEUE: usize = 1024;
 /// The feeds of a setup that does not say how many it has.
 pub const USUAL_FEEDS: u8 = 2;

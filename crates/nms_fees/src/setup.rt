@@ -1,4 +1,4 @@
-//! What a setup's document says: `specs/Settings`.
+//! The content of a setup's document: `specs/Settings`.
 ghost use Rattle.std.specs.Prelude.{◌≡◌, ◌<◌, ◌≤◌, length};
 ghost use Rattle.std.specs.List.{AllByRecursion};
 ghost use Rattle.nms_quote.specs.Merge.{place_of};
@@ -9,8 +9,8 @@ use nms_fee_book::{Caps, FeeBook};
 use nms_quote::{MOST_CHANGES, MOST_FEEDS, Roster};
 use std::marker::Model;
 
-/// What a setup's document says: the roster with its round lots, the access fees, and the bounds of
-/// the tape, the queue, the desks and the feeds.
+/// The content of a setup's document. It has the roster with its round lots, the access fees, and the bounds of the tape, the
+/// queue, the desks and the feeds.
 #[derive(Drop)]
 pub struct Setup {
     pub(crate) roster: Roster,
@@ -32,7 +32,7 @@ impl Model for Setup {
 }
 
 impl Setup {
-    /// The participants with their feeds, and the symbols with the round lots that they begin with.
+    /// The participants with their feeds, and the symbols with their first round lots.
     pub fn roster(&self) -> &Roster
         ensures { result.now ≡ self.now.roster }
     {
@@ -82,8 +82,8 @@ impl Setup {
         self.desks
     }
 
-    /// How many feeds there are, 1 to `MOST_FEEDS` (8): the first ones, and each participant sends on one of them. Two,
-    /// if the document does not say.
+    /// How many feeds there are, 1 to `MOST_FEEDS` (8). They are the first feeds, and each participant sends on one of them.
+    /// There are two if the document does not say.
     pub fn feeds(&self) -> u8
         ensures value { result ≡ self.now.feeds }
         ensures low { 1 ≤ result }

@@ -8,17 +8,17 @@ use thiserror::Error;
 /// Why a text is not a setup: the fault of least number anywhere in it.
 #[derive(Clone, Copy, Debug, PartialEq, Eq, Error)]
 pub enum SetupFault {
-    /// C1: the text is no TOML document.
+    /// C1: the text is not a TOML document.
     NotToml,
     /// C2: a required key is absent, at the top or in a table of the two arrays.
     Missing,
-    /// C3: another key is there.
+    /// C3: there is another key.
     UnknownKey,
-    /// C4: a name is a text that is not of its form, or is repeated in its array.
+    /// C4: a name is a text that does not have its form, or is repeated in its array.
     BadName,
-    /// C5: a value is not of its kind.
+    /// C5: a value does not have its kind.
     WrongType,
-    /// C6: a value of its kind is out of range, or one of the two arrays is empty.
+    /// C6: a value is out of range, or one of the two arrays is empty.
     OutOfRange,
     /// C7: a fee or a rate is over its cap.
     OverCap,
@@ -46,7 +46,7 @@ impl SetupFault {
         }
     }
 
-    /// The exit status of a program that it ends: 3 for the setup, 5 for memory.
+    /// The exit status of a program that ends with it: 3 for the setup, 5 for memory.
     pub fn status(self) -> u8
         ensures { result ≡ status_of self }
     {

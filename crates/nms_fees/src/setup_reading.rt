@@ -1,4 +1,4 @@
-//! A setup from the text of its document: `specs/Setup`.
+//! Reading a setup from the text of its document: `specs/Setup`.
 ghost use Rattle.std.specs.Prelude.{◌≡◌, ◌≢◌, [], ◌∷◌, ◌++◌, map, None, Ok, Err, OnOk, IfOk, IfErr};
 ghost use Rattle.toml.specs.View.{view, table_view};
 ghost use Rattle.nms_quote.specs.Roster.{part_refusal, sym_refusal};
@@ -22,8 +22,8 @@ use toml::{Table, Value};
 
 /// Reads a setup from a TOML document.
 ///
-/// The error is the fault of least number anywhere in the text. If memory was short, `NoMemory` may come in place of
-/// any later answer.
+/// The error is the fault of least number anywhere in the text. If memory was short, `NoMemory` may come instead of any later
+/// answer.
 pub fn read_setup(alloc: Global, text: &str) -> Result<Setup, SetupFault>
     ensures read { IfOk result (λ setup. reading text.now ≡ Ok setup) }
     ensures refused { IfErr result (λ fault. fault ≢ SetupFault.NoMemory → reading text.now ≡ Err fault) }
@@ -45,9 +45,9 @@ pub fn read_setup(alloc: Global, text: &str) -> Result<Setup, SetupFault>
     settings_of(alloc, &document)
 }
 
-/// Reads a setup from the bytes of a file. Bytes that are not UTF-8 are no TOML document.
+/// Reads a setup from the bytes of a file. Bytes that are not UTF-8 are not a TOML document.
 ///
-/// The error is as of `read_setup`.
+/// The error is as for `read_setup`.
 pub fn read_setup_bytes(alloc: Global, bytes: &[u8]) -> Result<Setup, SetupFault>
     ensures read { IfOk result (λ setup. IsSetupOf bytes.now setup) }
     ensures refused { IfErr result (λ fault. fault ≢ SetupFault.NoMemory → IsRefused bytes.now fault) }
@@ -58,7 +58,7 @@ pub fn read_setup_bytes(alloc: Global, bytes: &[u8]) -> Result<Setup, SetupFault
     }
 }
 
-/// What a document without a fault says.
+/// The setup that a document without a fault gives.
 fn settings_of(alloc: Global, document: &Table) -> Result<Setup, SetupFault>
     requires { document_fault (table_view document.now) ≡ None }
     ensures value { IfOk result (λ setup. setup ≡ settings_of (table_view document.now)) }
@@ -78,7 +78,7 @@ fn settings_of(alloc: Global, document: &Table) -> Result<Setup, SetupFault>
     })
 }
 
-/// The roster of the two arrays.
+/// The roster that the two arrays give.
 fn roster_of(alloc: Global, participants: &[Value], symbols: &[Value]) -> Result<Roster, SetupFault>
     requires participants { AreSound section.Participant (map view participants.now) }
     requires symbols { AreSound section.Symbol (map view symbols.now) }
@@ -197,7 +197,7 @@ fn schedule_of(row: &Value) -> FeeSchedule
     }
 }
 
-/// The text at a key of a row, or an empty one if there is none.
+/// The text at a key of a row; an empty one if there is none.
 fn text_in<'a>(row: &'a Value, key: &str) -> &'a str
     ensures { result.now ≡ text_at key.now (table_of (view row.now)) }
 {
@@ -207,7 +207,7 @@ fn text_in<'a>(row: &'a Value, key: &str) -> &'a str
     }
 }
 
-/// The number at a key of a row, or 0 if there is none.
+/// The number at a key of a row; 0 if there is none.
 fn number_in(row: &Value, key: &str) -> i64
     ensures { result ≡ number_at key.now (table_of (view row.now)) }
 {

@@ -16,7 +16,7 @@ pub fn value_at<'a>(table: &'a Table, key: &str) -> Option<&'a Value>
     table.get(key)
 }
 
-/// The text at a key, or an empty one if there is none.
+/// The text at a key; an empty one if there is none.
 pub(crate) fn text_at<'a>(table: &'a Table, key: &str) -> &'a str
     ensures { result.now ≡ text_at key.now (table_view table.now) }
 {
@@ -29,7 +29,7 @@ pub(crate) fn text_at<'a>(table: &'a Table, key: &str) -> &'a str
     }
 }
 
-/// The number at a key, or 0 if there is none.
+/// The number at a key; 0 if there is none.
 pub(crate) fn number_at(table: &Table, key: &str) -> i64
     ensures { result ≡ number_at key.now (table_view table.now) }
 {
@@ -42,7 +42,7 @@ pub(crate) fn number_at(table: &Table, key: &str) -> i64
     }
 }
 
-/// The size of the number at a key, or 0 if there is none.
+/// The size of the number at a key; 0 if there is none.
 pub(crate) fn count_at(table: &Table, key: &str) -> u64
     ensures { result ≡ count_at key.now (table_view table.now) }
 {
@@ -59,7 +59,7 @@ pub fn rows_in(value: &Value) -> Option<&[Value]>
     }
 }
 
-/// The elements of the array at a key, or none if there is no array.
+/// The elements of the array at a key; none if there is no array.
 pub fn rows_at<'a>(table: &'a Table, key: &str) -> &'a [Value]
     ensures { map view result.now ≡ rows_at key.now (table_view table.now) }
 {

@@ -27,7 +27,7 @@ pub record PlansOn (settings : Settings) (seen : Seen) (order : Terms) (old new 
   pub optimal : IsOptimal (usable seen order settings.fees) order.shares (given_by plan.legs.items)
   pub written : Appends old new (plan_text settings.roster plan cuts)
 
--- as above, on what the whole tape of a file shows of the order's symbol
+-- as above, on what the complete tape of a file shows for the order's symbol
 abbrev pub PlansFile : Settings → Option (List ℕ) → Terms → Option (List ℕ) → Option (List ℕ) → Type 0
 PlansFile settings bytes order old new =
     (tape : Tape) × IsFileTape settings bytes tape × PlansOn settings (view_of (sizes_of settings.roster) tape order.sym) order old new

@@ -9,16 +9,16 @@ use thiserror::Error;
 /// Why an audit does not confirm a plan, least number first.
 #[derive(Clone, Copy, Debug, PartialEq, Eq, Error)]
 pub enum AuditFault {
-    /// A1: the plan is of a version that has more changes than there are.
+    /// A1: the plan's version has more changes than there are.
     VersionBeyondTape,
-    /// A2: what is doubtful of the plan, or of its certificate, on its version.
+    /// A2: the plan, or its certificate, is doubtful on its version.
     Doubt(Doubt),
     /// A3: out of memory.
     NoMemory,
 }
 
 impl AuditFault {
-    /// The code of the fault, `A1` to `A3`. A doubt has a code of its own too.
+    /// The code of the fault, `A1` to `A3`. A doubt also has its own code.
     pub fn code(self) -> &'static str
         ensures { result.now ≡ code_of_audit self }
     {

@@ -1,4 +1,4 @@
-//! The audit of a plan on the changes that it was made on (specs/Audit).
+//! The audit of a plan on the changes on which it was made (specs/Audit).
 ghost use Rattle.std.specs.Prelude.{◌≡◌, ◌<◌, ◌≤◌, All, OnOk, length, true};
 ghost use Rattle.nms_quote.specs.Roster.{holds, sizes_of};
 ghost use Rattle.nms_quote.specs.declared.TheConstants.{MOST_CHANGES};
@@ -11,13 +11,13 @@ use nms_fees::Setup;
 use nms_quote::{Certificate, Change, Plan};
 use std::alloc::Global;
 
-/// Confirms a plan by its certificate on the version that it names, the first `version` of these changes, for its own
-/// order and with the fees of the setup.
+/// Confirms a plan by its certificate on the version that it names, the first `version` of these changes. The plan's own order
+/// and the fees of the setup are taken.
 ///
-/// `Ok` says that the plan is lawful on that version, that no lawful plan fills more, and that none that fills as much
-/// costs less. `VersionBeyondTape` comes exactly if the version has more changes than there are, else `Doubt` with what
-/// `confirm` doubts; `NoMemory` only if there is none for a board, which is made once. Each change of the version is
-/// looked at once. Takes 0 to 10,000,000 changes of the setup's roster; the order's symbol is of that roster.
+/// `Ok` means that the plan is lawful on that version, that no lawful plan fills more shares, and that none fills as many for
+/// less. `VersionBeyondTape` comes if and only if the version has more changes than there are. Else `Doubt` has what `confirm`
+/// doubts. `NoMemory` comes only if there is no memory for a board, which is made once. Each change of the version is read
+/// once. It takes 0 to 10,000,000 changes of the setup's roster, and the order's symbol is on that roster.
 pub fn audit(
     alloc: Global,
     setup: &Setup,

@@ -1,4 +1,4 @@
-//! What is seen of a symbol after the changes of a file.
+//! The view of a symbol after the changes of a file.
 ghost use Rattle.std.specs.Prelude.{◌≡◌, ◌<◌, ◌≤◌, All, length, true, IfErr, IfOk};
 ghost use Rattle.nms_quote.specs.Roster.{holds, sizes_of};
 ghost use Rattle.nms_quote.specs.declared.side_quote.Side.{Side};
@@ -14,7 +14,7 @@ use nms_quote::{Change, Roster, Sym};
 use std::alloc::Global;
 use std::io::Read;
 
-/// Why nothing is seen of a file of changes.
+/// Why there is no view after a file of changes.
 #[derive(Clone, Copy)]
 pub(crate) enum ViewFault {
     /// The file of changes is no tape.
@@ -23,7 +23,7 @@ pub(crate) enum ViewFault {
     Board(BoardFault),
 }
 
-/// What is seen of a symbol after all the changes of a file.
+/// The view of a symbol after all the changes of a file.
 pub(crate) fn view_of_file<R: Read + Drop>(
     alloc: Global,
     setup: &Setup,
@@ -45,7 +45,7 @@ pub(crate) fn view_of_file<R: Read + Drop>(
     }
 }
 
-/// What is seen of a symbol after these changes.
+/// The view of a symbol after these changes.
 pub(crate) fn view_after(
     alloc: Global,
     roster: &Roster,

@@ -1,5 +1,5 @@
-//! The laws above the text of a plan: `specs/PlanLaws` of `nms_lines`. These functions serve no record: they are here
-//! for their contracts.
+//! The laws about the text of a plan: `specs/PlanLaws` of `nms_lines`. These functions serve no record, and are here for their
+//! contracts.
 ghost use Rattle.std.specs.Prelude.{◌≡◌, ◌<◌, ◌≤◌, All, length};
 ghost use Rattle.nms_units.specs.declared.TheConstants.{MOST_SHARES};
 ghost use Rattle.nms_quote.specs.Roster.{sizes_of};
@@ -16,8 +16,8 @@ use nms_lines::a_plan_reads_as_written;
 use nms_quote::{Certificate, Cut, Leg, Order, Plan, Roster};
 use nms_sweep::{an_accepted_plan_is_within_bounds, plan};
 
-/// `read_plan` reads back what `write_plan` writes of an accepted plan with its certificate: for an order of the
-/// roster, on a view of a version of at most 10,000,000 changes, whatever the plan's source.
+/// `read_plan` reads back what `write_plan` writes for an accepted plan with its certificate. The order is of the roster, and
+/// the view's version has at most 10,000,000 changes. The plan may come from any source.
 pub fn an_accepted_plan_reads_as_written(
     roster: &Roster,
     order: &Order,
@@ -38,8 +38,8 @@ pub fn an_accepted_plan_reads_as_written(
     cuts_are_in_range(certificate.as_slice());
 }
 
-/// Plans an order as `plan` does. `read_plan` reads back what `write_plan` writes of the answer, if the view's version
-/// has at most 10,000,000 changes and the order is of the roster.
+/// Plans an order as `plan` does. `read_plan` reads back what `write_plan` writes for the answer, if the view's version has at
+/// most 10,000,000 changes and the order is of the roster.
 pub fn a_planned_order_reads_as_written(
     roster: &Roster,
     view: &View,

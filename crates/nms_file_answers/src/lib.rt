@@ -1,4 +1,4 @@
-//! What is made of a file of changes: the report of a symbol, the plan of an order, the audit of a plan.
+//! Answers from a file of changes: the report of a symbol, the plan of an order, the audit of a plan.
 #![tactic(auto)]
 
 mod audit_fault;

@@ -15,8 +15,8 @@ pub enum PlanFault {
     Changes(ChangesFault),
     /// B1: no board was made. Nothing was written.
     Board(BoardFault),
-    /// L12 or L13: there was no memory for the text, and nothing was written; or the writer failed, and a prefix of
-    /// the text was written, and nothing else.
+    /// L12 or L13. Either there was no memory for the text, and nothing was written; or the writer failed, and only a prefix of
+    /// the text was written.
     Text(TextFault),
 }
 
@@ -32,7 +32,7 @@ impl PlanFault {
         }
     }
 
-    /// The exit status of a program that it ends: that of the file's or the text's fault, 5 for the board.
+    /// The exit status of a program that ends with it: that of the file's or the text's fault, 5 for the board.
     pub fn status(self) -> u8
         ensures { result ≡ status_of_plan self }
     {

@@ -17,12 +17,12 @@ use nms_text::TextFault;
 use std::alloc::Global;
 use std::io::{Read, Write};
 
-/// Plans an order on all the changes of a file, and writes the plan with its certificate as text, flushed
-/// (17 CFR 242.600, "intermarket sweep order").
+/// Plans an order on all the changes of a file, and writes it with its certificate as text, flushed (17 CFR 242.600,
+/// "intermarket sweep order").
 ///
-/// The plan is accepted with its certificate on what the changes show, with the fees of the setup: no lawful plan fills more,
-/// or as much for less. The file is read first. Only a writer that fails leaves something written: a prefix of that text.
-/// The order's symbol is of the setup's roster, and so are the participants that it names.
+/// The plan is accepted with its certificate on what the changes show, with the fees of the setup. No lawful plan fills more
+/// shares, or as many for less. The file is read first. If the writer fails, a prefix of that text was written; after any other
+/// fault nothing was. The order's symbol is on the setup's roster, and so are the participants that it names.
 pub fn plan_changes<R: Read + Drop, W: Write>(
     alloc: Global,
     setup: &Setup,
@@ -44,7 +44,7 @@ pub fn plan_changes<R: Read + Drop, W: Write>(
     }
 }
 
-/// Plans an order on what is seen, and writes the plan with its certificate.
+/// Plans an order on a view, and writes the plan with its certificate.
 fn plan_view<W: Write>(
     alloc: Global,
     setup: &Setup,

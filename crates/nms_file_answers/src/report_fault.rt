@@ -14,7 +14,7 @@ pub enum ReportFault {
     Changes(ChangesFault),
     /// B1: no board was made. Nothing was written.
     Board(BoardFault),
-    /// E2: the writer failed. A prefix of the report was written, and nothing else.
+    /// E2: the writer failed. Only a prefix of the report was written.
     WriteFault,
     /// E4: out of memory. Nothing was written.
     NoMemory,
@@ -33,7 +33,7 @@ impl ReportFault {
         }
     }
 
-    /// The exit status of a program that it ends: that of the file's fault, 1 for the writer, 5 for memory.
+    /// The exit status of a program that ends with it: that of the file's fault, 1 for the writer, 5 for memory.
     pub fn status(self) -> u8
         ensures { result ≡ status_of_report self }
     {

@@ -19,7 +19,7 @@ use std::io::{Read, Write};
 
 /// Writes the report of a symbol of the roster after all the changes of a file: one write, flushed.
 ///
-/// The file is read first. Only `WriteFault` leaves something written: a prefix of that report.
+/// The file is read first. After `WriteFault` a prefix of that report was written; after any other fault nothing was.
 pub fn report_changes<R: Read + Drop, W: Write>(
     alloc: Global,
     setup: &Setup,
@@ -40,7 +40,7 @@ pub fn report_changes<R: Read + Drop, W: Write>(
     }
 }
 
-/// Writes the report of what is seen: one write, flushed.
+/// Writes the report of a view: one write, flushed.
 fn report_view<W: Write>(
     alloc: Global,
     roster: &Roster,

@@ -22,7 +22,7 @@ last_fields false None = []
 last_fields true (Some names) = codes "M" ∷ names ∷ []
 last_fields false (Some names) = [] ∷ names ∷ []
 
--- the participants that names name; nobody if there are none
+-- the participants that names name; none if there are no names
 abbrev pub named_by : Listing → Option (List ℕ) → Option ℕ
 named_by roster None = Some nobody
 named_by roster (Some names) = named_in roster names

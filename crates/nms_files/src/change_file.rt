@@ -1,4 +1,4 @@
-//! Files of changes: `Q`, `S`, `X` and `R` lines, all of them one tape (specs/ChangeFile).
+//! Reading files of changes. Their lines `Q`, `S`, `X` and `R` together are one tape (specs/ChangeFile).
 ghost use Rattle.std.specs.Prelude.{◌≡◌, ◌≤◌, All, length, true, IfErr, IfOk};
 ghost use Rattle.nms_quote.specs.Roster.{holds, sizes_of};
 ghost use Rattle.nms_quote.specs.declared.TheConstants.{MOST_CHANGES};
@@ -12,10 +12,10 @@ use nms_quote::{Change, SideQuote};
 use std::alloc::Global;
 use std::io::Read;
 
-/// Reads the changes of a file, or returns the fault of its first refused line. `TapeFull` is the fault of the first
-/// accepted line beyond the tape's limit.
+/// Reads the changes of a file, or returns the fault of its first refused line. `TapeFull` is the fault of the first accepted
+/// line beyond the tape's limit.
 ///
-/// The file is always read to its end: if it can't be read, that is the fault, whatever its lines are.
+/// The file is always read to its end. If it can't be read, that is the fault, even if a line is refused.
 pub fn read_changes<R: Read + Drop>(
     alloc: Global,
     setup: &Setup,
@@ -53,7 +53,7 @@ impl FileItem for Change {
         if changes.len() as u64 >= setup.tape_limit() {
             return Err(ChangesFault::TapeFull);
         }
-        // Moving a change takes a mention of the types in it: the prover has to have seen them.
+        // The prover has to see the types in a change before the change moves, so the code mentions them.
         let _seen: Option<SideQuote> = None;
         match changes.push(change) {
             Ok(()) => Ok(()),

@@ -1,4 +1,4 @@
-//! Why a file of changes is no tape.
+//! Why a file of changes is no tape. No change of it is kept.
 ghost use Rattle.std.specs.Prelude.{◌≡◌};
 ghost use Rattle.nms_files.specs.Faults.{code_of_changes, status_of_changes};
 
@@ -6,14 +6,14 @@ use nms_lines::{LineFault, RecordFault};
 use std::fmt;
 use thiserror::Error;
 
-/// Why a file of changes is no tape. Nothing is left of it.
+/// E1 or E4: the file could not be read, or out of memory.
 #[derive(Clone, Copy, Debug, PartialEq, Eq, Error)]
 pub enum ChangesFault {
-    /// E1 or E4: the file could not be read, or memory ran out.
+    /// E1 or E4: the file could not be read, or out of memory.
     Record(RecordFault),
     /// L1 to L10, or L14: the first line that is refused; every line before it was taken.
     Line(LineFault),
-    /// F4: a line says one change more than the setup's tape holds.
+    /// F4: the file has one more change than the setup's tape holds.
     TapeFull,
 }
 
@@ -29,7 +29,7 @@ impl ChangesFault {
         }
     }
 
-    /// The exit status of a program that it ends: that of the file, or 6 for a line or the tape's length.
+    /// The exit status of a program that ends with it: that of the file, or 6 for a line or the tape's length.
     pub fn status(self) -> u8
         ensures { result ≡ status_of_changes self }
     {

@@ -6,10 +6,10 @@ use nms_lines::RecordFault;
 use std::fmt;
 use thiserror::Error;
 
-/// Why the file of a feed was not read. Nothing is left of it.
+/// Why the file of a feed was not read. No byte of it is kept.
 #[derive(Clone, Copy, Debug, PartialEq, Eq, Error)]
 pub enum FeedFault {
-    /// E1 or E4: the file could not be read, or memory ran out.
+    /// E1 or E4: the file could not be read, or out of memory.
     Record(RecordFault),
     /// E3: the file has more bytes than a feed may have.
     TooLong,
@@ -26,7 +26,7 @@ impl FeedFault {
         }
     }
 
-    /// The exit status of a program that it ends: that of the file, or 6 for its length.
+    /// The exit status of a program that ends with it: that of the file, or 6 for its length.
     pub fn status(self) -> u8
         ensures { result ≡ status_of_feed self }
     {

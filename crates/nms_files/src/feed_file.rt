@@ -1,4 +1,4 @@
-//! The file of a feed, read whole.
+//! Reading the complete file of a feed.
 ghost use Rattle.std.specs.Prelude.{◌≡◌, ◌≢◌, ◌<◌, ◌≤◌, ◌-◌, ◌^◌, length, IfErr, IfOk, IfSome};
 
 use crate::feed_fault::FeedFault;
@@ -7,7 +7,7 @@ use std::alloc::Global;
 use std::io;
 use std::io::{ErrorKind, Read};
 
-/// All that a source has left, if that is at most `most` bytes. No more than one byte beyond is read.
+/// All bytes that a source still has, if these are at most `most`. At most one byte more is read.
 pub fn read_within<R: Read + Drop>(
     alloc: Global,
     source: R,

@@ -1,4 +1,4 @@
-//! Files that the quote board reads: of changes, of orders, of a feed; and the words of an order.
+//! The files that the quote board reads: those of changes, of orders, of a feed. Also the arguments for an order.
 #![tactic(auto)]
 
 mod change_file;

@@ -1,4 +1,4 @@
-//! Files of lines of one kind, taken up to the first line that is refused (specs/LineFile).
+//! Files with lines of one kind, taken up to the first line that is refused (specs/LineFile).
 ghost use Rattle.std.specs.Prelude.{◌≡◌, ℕ, ◌++◌, ◌∷◌, [], List, Option, None, Some, IfErr, IfOk, OnErr, OnOk};
 ghost use Rattle.csv.specs.Records.{fields_of};
 ghost use Rattle.nms_fees.specs.Settings.{Settings};
@@ -11,18 +11,18 @@ use nms_lines::{ByteRecord, Reader, RecordFault, open_records, open_row, read_ne
 use std::alloc::Global;
 use std::io::Read;
 
-/// What a line of a file says, if all its lines say one kind of thing.
+/// A thing that a line of a file gives, if all its lines give one kind of thing.
 pub trait FileItem: Sized + Drop {
     /// Why a line is refused.
     type Fault: Drop;
 
-    // That lines say these items, each at its place, and what else holds of them.
+    // The relation that lines give these items, each at its place, and what else holds of them.
     ghost are_taken: { Settings → List Record → List Self → Type 0 };
 
     // Why one more line is refused after these items.
     ghost is_refused: { Settings → List Self → Record → Self.Fault → Type 0 };
 
-    /// Takes what one more line says, or refuses it.
+    /// Takes what one more line gives, or refuses it.
     fn take_line(items: &mut Vec<Self>, setup: &Setup, row: &ByteRecord) -> Result<(), Self::Fault>
         ensures taken { (records : List Record) → are_taken setup.now records items.old.items
             → OnOk result (are_taken setup.now (records ++ fields_of row.now ∷ []) items.new.items) }
@@ -30,14 +30,14 @@ pub trait FileItem: Sized + Drop {
         ensures refused { IfErr result (is_refused setup.now items.old.items (fields_of row.now)) };
 }
 
-/// The result of the lines so far: what they say, and the fault of the first line that was refused.
+/// The result of the lines so far: the items that they give, and the fault of the first line that was refused.
 #[derive(Drop)]
 pub struct Taken<T, F> {
     items: Vec<T>,
     refused: Option<F>,
 }
 
-/// What the lines of a file say, up to the first refused line. The file is always read to its end.
+/// The items that the lines of a file give, up to the first refused line. The file is always read to its end.
 pub(crate) fn read_items<R: Read + Drop, T: FileItem>(
     alloc: Global,
     setup: &Setup,
@@ -59,7 +59,7 @@ pub(crate) fn read_items<R: Read + Drop, T: FileItem>(
     }
 }
 
-/// Takes the lines that are left.
+/// Takes the remaining lines.
 fn take_lines<R: Read, T: FileItem>(
     reader: &mut Reader<R>,
     row: &mut ByteRecord,
@@ -78,11 +78,11 @@ fn take_lines<R: Read, T: FileItem>(
             Err(fault) => return Err(fault),
         }
     }
-    // No source has so many records.
+    // This never happens, because no source has that number of records.
     Err(RecordFault::Failed)
 }
 
-/// Takes one more line. No line counts after a refused one.
+/// Takes one more line. Lines after a refused one do not count.
 fn take_next<T: FileItem>(so_far: &mut Taken<T, T::Fault>, setup: &Setup, row: &ByteRecord)
     ensures { (records : List Record) → HaveCome (T.are_taken setup.now) (T.is_refused setup.now) records so_far.old.items.items so_far.old.refused
         → HaveCome (T.are_taken setup.now) (T.is_refused setup.now) (records ++ fields_of row.now ∷ []) so_far.new.items.items so_far.new.refused }
@@ -92,7 +92,7 @@ fn take_next<T: FileItem>(so_far: &mut Taken<T, T::Fault>, setup: &Setup, row: &
     }
 }
 
-/// What the lines say, unless one was refused.
+/// The items that the lines give, unless a line was refused.
 pub(crate) fn outcome<T: Drop, F>(taken: Taken<T, F>) -> Result<Vec<T>, F>
     ensures items { IfOk result (λ items. (items ≡ taken.items) × (taken.refused ≡ None)) }
     ensures fault { IfErr result (λ fault. taken.refused ≡ Some fault) }

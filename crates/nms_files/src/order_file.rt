@@ -1,4 +1,4 @@
-//! Files of orders: `O` lines, each for a desk (specs/OrderFile).
+//! Reading files of orders. A line `O` is for one desk (specs/OrderFile).
 ghost use Rattle.std.specs.Prelude.{◌≡◌, ◌<◌, All, length, IfErr, IfOk};
 ghost use Rattle.csv.specs.Records.{fields_of};
 ghost use Rattle.nms_lines.specs.Named.{AreBelow};
@@ -12,10 +12,9 @@ use nms_quote::{DeskOrder, SideQuote};
 use std::alloc::Global;
 use std::io::Read;
 
-/// Reads the orders of a file in order, or returns the fault of its first refused line. A line of another kind is
-/// `UnknownKind`.
+/// Reads the orders of a file in order, or returns the fault of its first refused line. A line of another kind is `UnknownKind`.
 ///
-/// The file is always read to its end: if it can't be read, that is the fault, whatever its lines are.
+/// The file is always read to its end. If it can't be read, that is the fault, even if a line is refused.
 pub fn read_orders<R: Read + Drop>(
     alloc: Global,
     setup: &Setup,
@@ -58,12 +57,12 @@ impl FileItem for DeskOrder {
     }
 }
 
-/// What a line of such a file says.
+/// The order that a line of such a file gives.
 fn read_order(row: &ByteRecord, setup: &Setup) -> Result<DeskOrder, LineFault>
     ensures line { result ≡ order_reading setup.now (fields_of row.now) }
     ensures there { IfOk result (IsOrderFor setup.now) }
 {
-    // Moving a line takes a mention of the types in it: the prover has to have seen them.
+    // The prover has to see the types in a line before the line moves, so the code mentions them.
     let _seen: Option<SideQuote> = None;
     let desks = setup.desks();
     match &read_line(row, setup.roster(), Reading::Orders { desks }) {

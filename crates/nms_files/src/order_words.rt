@@ -1,4 +1,4 @@
-//! The words of an order (specs/OrderWords).
+//! Reading an order from the arguments of a call (specs/OrderWords).
 ghost use Rattle.std.specs.Prelude.{◌≡◌, ◌<◌, IfSome, length, option_copied};
 ghost use Rattle.nms_lines.specs.Named.{AreBelow};
 ghost use Rattle.nms_files.specs.OrderWords.{named_by, order_asked, order_with};
@@ -6,9 +6,9 @@ ghost use Rattle.nms_files.specs.OrderWords.{named_by, order_asked, order_with};
 use nms_lines::{price_of, read_names, side_of, some_shares_of};
 use nms_quote::{Order, PartSet, Roster};
 
-/// The order that words say: a side (`B` or `S`), a symbol, shares and a limit, as in a script's record `O`. The
-/// participants, joined by `+`, are those against which self-help is declared (17 CFR 242.611(b)(1)). `None` if such a
-/// record is refused.
+/// The order that arguments give: a side (`B` or `S`), a symbol, shares and a limit, as in a script's record `O`. The
+/// participants, joined by `+`, are those against which self-help is declared (17 CFR 242.611(b)(1)). `None` if such a record
+/// is refused.
 pub fn order_of(
     roster: &Roster,
     side: &str,
@@ -26,7 +26,7 @@ pub fn order_of(
     order_with(roster, side, sym, shares, limit, manual, self_help)
 }
 
-/// The order of those words that names those participants.
+/// The order that those arguments give, with these participants.
 fn order_with(
     roster: &Roster,
     side: &str,
@@ -47,7 +47,7 @@ fn order_with(
     Order::new(side, sym, shares, limit, manual, self_help)
 }
 
-/// The participants that the names name; nobody if there are none.
+/// The participants that the names give; none if there are no names.
 fn named_by(roster: &Roster, names: Option<&str>) -> Option<PartSet>
     ensures set { result ≡ named_by roster.now (option_copied names.entry) }
     ensures there { IfSome result (AreBelow (length roster.now.parts)) }

@@ -6,10 +6,10 @@ use nms_lines::{LineFault, RecordFault};
 use std::fmt;
 use thiserror::Error;
 
-/// Why a file of orders is refused. Nothing is left of it.
+/// Why a file of orders is refused. No order of it is kept.
 #[derive(Clone, Copy, Debug, PartialEq, Eq, Error)]
 pub enum OrdersFault {
-    /// E1 or E4: the file could not be read, or memory ran out.
+    /// E1 or E4: the file could not be read, or out of memory.
     Record(RecordFault),
     /// L1 to L10: the first line that is refused; every line before it was taken.
     Line(LineFault),
@@ -26,7 +26,7 @@ impl OrdersFault {
         }
     }
 
-    /// The exit status of a program that it ends: that of the file, or 6 for a line.
+    /// The exit status of a program that ends with it: that of the file, or 6 for a line.
     pub fn status(self) -> u8
         ensures { result ≡ status_of_orders self }
     {

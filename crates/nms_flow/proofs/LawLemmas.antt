@@ -57,7 +57,7 @@ of_feed-sent_by feed (event ∷ events) =
     ∙ ap (λ o. cons_option o (of_feed feed (sent_by events))) (given-sent feed event)
     ∙ ap (cons_option (if is_answered event.1 then sent_on feed event.0 else None)) (of_feed-sent_by feed events)
 
--- of lists that are made for each feed, a feed's own is the one that is made for it
+-- if lists are made for each feed, a feed's list is the one that is made for it
 own_of-each : {X : Type 0} (list : Feed → List X) (f : Feed) → own_of f (map list feeds) ≡ list f
 own_of-each list feed.A = refl
 own_of-each list feed.B = refl
@@ -176,7 +176,7 @@ version_len at sound =
     length-take-le at.taken (changes_in at.sent) (omega (arith, sound.taken, length-map at.sent (λ (m : Marked). m.change))) in
     length-take-le at.published (tape_at at) (omega (arith, taken, sound.published))
 
--- a desk is shown and told of the published version
+-- a desk is shown and learns of the published version
 shown_is : (room : Room) (at : Standing) (desk : ℕ) (asked : Step) (v : ℕ) → IsSound at
     → version_for desk (asked, answer_to room at asked) ≡ Some v → v ≡ at.published
 shown_is room at desk (step.Send on change) v sound shown = by_answer (answer_to_send room at) shown

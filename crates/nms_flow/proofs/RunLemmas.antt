@@ -81,7 +81,7 @@ is_run-push room events event run answer place other at = elim (cases_lt place (
     some_is : {X : Type 0} {x y : X} → Some x ≡ Some y → x ≡ y
     some_is h = cc
 
--- the machine stands at the point that one event more has led to
+-- the machine is at the point that one event more has led to
 pub goes_on : (old new : State) (before : List Event) (event : Event) → WentOn old new event → IsAfter old before
     → IsAfter new (before ++ event ∷ [])
 goes_on old new before event went h = record {

@@ -39,7 +39,7 @@ takes_more old now new r some went before h =
       subst (IsAfter new) (append_assoc before so_far.0 (event ∷ [])) (goes_on now new (before ++ so_far.0) event went so_far.2),
     )
 
--- n takings succeed if as many changes are queued and the tape has room for them
+-- n takings succeed if n changes are queued and the tape has room for them
 takes_some : (old : State) (count : ℕ) → old.pending + count ≤ length old.changes → old.board.applied + old.pending + count ≤ old.most_taken
     → TakesSome old (with_more old count)
 takes_some old zero queued room = subst (TakesSome old) (ap (λ (p : ℕ). record old { pending = p }) (omega arith)) (takes_none old)
@@ -56,7 +56,7 @@ takes_until old new why some went before h =
     let so_far = some before h in
     (so_far.0, so_far.1, goes_on new new (before ++ so_far.0) (step.Take, Err why) went so_far.2)
 
--- the whole queue was taken
+-- all of the queue was taken
 pub takes_until_empty : (old : State) (count : ℕ) (kept : List Marked) → kept ≡ old.changes → old.pending + count ≡ length old.changes
     → old.board.applied + old.pending + count ≤ old.most_taken
     → TakesUntil fault.QueueEmpty old (record old { changes = kept; pending = old.pending + count })

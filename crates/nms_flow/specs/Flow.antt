@@ -46,8 +46,7 @@ pub record WentOn (old new : State) (event : Event) : Type 0 where
   pub stands : (at : Standing) → StandsAt old at → StandsAt new (after at event)
   pub room : room_of new ≡ room_of old
 
--- what every machine keeps: its changes are of the roster, the tape is within its limit, and the queue has
--- its whole room
+-- what every machine keeps: its changes are of the roster, the tape is within its limit, and the queue has all of its room
 pub record IsSound (state : State) (capacity : ℕ) : Type 0 where
   pub held : All (λ marked. holds state.board.sizes marked.change ≡ true) state.changes
   pub pending : state.pending ≤ length state.changes

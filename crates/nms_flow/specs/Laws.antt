@@ -28,13 +28,13 @@ fed_by feed events = filter_map (λ event. if is_answered event.1 then sent_on f
 abbrev pub IsOnOwnFeed : Listing → Marked → Type 0
 IsOnOwnFeed roster marked = feed_of_change roster marked.change ≡ Some marked.feed
 
--- the version that an answer shows a desk or tells it of
+-- the version of an answer, which a desk is shown or learns of
 abbrev pub version_for : ℕ → Event → Option ℕ
 version_for desk (step.Tell to, Ok (reply.Told told version)) = if to == desk then Some version else None
 version_for desk (step.Look to sym, Ok (reply.Seen seen)) = if to == desk then Some seen.version else None
 version_for desk other = None
 
--- the versions that a desk was shown or told of, in order
+-- the versions that a desk was shown or learned of, in order
 abbrev pub versions_of : ℕ → List Event → List ℕ
 versions_of desk events = filter_map (version_for desk) events
 

@@ -30,12 +30,12 @@ use std::marker::Model;
 
 /// The machine that consolidates, in one thread. This product's own rule.
 ///
-/// The board's rows and the whole queue are made with it; later only a taking can run out of memory.
+/// The board's rows and all of the queue are made with it. Later only a taking can be out of memory.
 #[derive(Drop)]
 pub struct Flow {
     /// The published version.
     board: Boards,
-    /// The changes sent since the last publishing, each with its feed: first those taken to the tape, then the queue.
+    /// The changes sent since the last publishing, each with its feed. First come those taken to the tape, then the queue.
     changes: VecDeque<Marked>,
     /// How many of them were taken.
     pending: usize,
@@ -59,7 +59,7 @@ impl Flow {
     ghost use Rattle.nms_flow.specs.Run.{Standing, after};
     ghost use Rattle.nms_flow.specs.Takes.{TakesUntil};
 
-    /// A machine with nothing sent, with the room that the setup gives. `NoMemory` leaves nothing.
+    /// A machine to which nothing was sent, with the room that the setup gives. After `NoMemory` nothing is kept.
     pub fn new(alloc: Global, setup: &Setup) -> Result<Self, FlowFault>
         ensures starts { IfOk result (λ flow. StandsAt flow start) }
         ensures run { IfOk result (λ flow. IsAfter flow []) }
@@ -82,14 +82,14 @@ impl Flow {
         })
     }
 
-    /// Whether a change speaks of participants and symbols of the setup's roster alone.
+    /// Whether a change is only about participants and symbols of the setup's roster.
     pub fn holds(&self, change: &Change) -> bool
         ensures { result ≡ holds self.now.board.sizes change.now }
     {
         self.board.holds(change)
     }
 
-    /// Whether a symbol is of the setup's roster.
+    /// Whether a symbol is on the setup's roster.
     pub fn has_sym(&self, sym: Sym) -> bool
         ensures { result ≡ nat_lt sym (length self.now.board.sizes.lots) }
     {
@@ -135,9 +135,9 @@ impl Flow {
         Ok(version + 1)
     }
 
-    /// Takes changes from the queue's front to the tape until a taking is refused, and returns the refusal, as `take`
-    /// does. It raises one count, however many are taken. `NoMemory` leaves the machine as it was: it comes before the
-    /// first taking, if that would have succeeded.
+    /// Takes changes from the queue's front to the tape until a taking is refused, and returns the refusal, as `take` does. It
+    /// raises one count for all of them together. `NoMemory` leaves the machine as it was. It comes before the first taking, if
+    /// that would have succeeded.
     pub fn take_all(&mut self) -> StepFault
         ensures run { TakesUntil result self.old self.new }
         ensures sends_nothing { result ≢ StepFault.QueueFull }
@@ -159,8 +159,8 @@ impl Flow {
         StepFault::TapeFull
     }
 
-    /// Makes the whole tape the published version, and returns its number. Takes no memory: each change taken since the
-    /// last publishing is applied to the board.
+    /// Makes all of the tape the published version, and returns its number. Takes no memory: each change taken since the last
+    /// publishing is applied to the board.
     pub fn publish(&mut self) -> u64
         ensures went { WentOn self.old self.new (step.Publish, Ok (reply.Published result)) }
     {
@@ -170,7 +170,7 @@ impl Flow {
         self.board.applied()
     }
 
-    /// The published version's number, of which a desk may be told.
+    /// The published version's number, which a desk may learn.
     pub fn published(&self) -> u64
         ensures told { (desk : ℕ) → WentOn self.now self.now (step.Tell desk, Ok (reply.Told desk result)) }
         ensures at { (at : Standing) → StandsAt self.now at → result ≡ at.published }
@@ -188,7 +188,7 @@ impl Flow {
         self.board.applied() + self.pending as u64
     }
 
-    /// The change that was sent at a place, from 0, if it was sent since the last publishing.
+    /// The change that was sent at a place, counted from 0, if it was sent since the last publishing.
     pub fn sent_at(&self, place: u64) -> Option<Change>
         ensures { (at : Standing) → StandsAt self.now at → at.published ≤ place
             → result ≡ slice_get (changes_in at.sent) place }
@@ -200,8 +200,7 @@ impl Flow {
         }
     }
 
-    /// What a look at a symbol shows: its quotations in the published version; no rows for a symbol out of the
-    /// roster.
+    /// What a look at a symbol shows: its quotations in the published version; no rows for a symbol that is not on the roster.
     pub fn look(&self, sym: Sym) -> View
         ensures went { (desk : ℕ) → WentOn self.now self.now (step.Look desk sym, Ok (reply.Seen result)) }
         ensures sym { result.sym ≡ sym }
@@ -210,7 +209,7 @@ impl Flow {
         self.board.view(sym)
     }
 
-    /// The published version's board, for a caller that reads a look off it, with no view made.
+    /// The published version's board, for a caller that reads a look off it without making a view.
     pub fn board(&self) -> &Boards
         ensures board { result.now ≡ self.now.board }
         ensures went { (desk sym : ℕ) → WentOn self.now self.now (step.Look desk sym, Ok (reply.Seen (seen_on self.now.board sym))) }
@@ -218,7 +217,7 @@ impl Flow {
         &self.board
     }
 
-    /// The best bid and the best offer that a look at a symbol of the roster shows, with no view made.
+    /// The best bid and the best offer that a look at a symbol of the roster shows, without making a view.
     #[inline(always)]
     pub fn best(&self, sym: Sym) -> BestRows
         requires { sym < length self.now.board.sizes.lots }
@@ -232,8 +231,8 @@ impl Flow {
         }
     }
 
-    /// Makes one step, which is one event. A fault leaves the machine as it was. `NoMemory` comes at a taking alone, and only
-    /// if it would have succeeded.
+    /// Makes one step, which is one event. A fault leaves the machine as it was. `NoMemory` comes only at a taking, and only if
+    /// it would have succeeded.
     pub fn step(&mut self, step: Step) -> Result<Reply, StepFault>
         requires { holds_step self.old.board.sizes step ≡ true }
         ensures went { WentOn self.old self.new (step, result) }
@@ -300,7 +299,7 @@ fn apply_all(board: &mut Boards, changes: &[Marked])
     }
 }
 
-/// Makes room for n changes. It fails only if there was less.
+/// Makes room for n changes. It can fail only if there was less room before.
 fn make_room(queue: &mut VecDeque<Marked>, most: usize) -> Result<(), AllocError>
     requires { deque_len queue.old ≤ most }
     ensures items { queue.new.items ≡ queue.old.items }
@@ -317,7 +316,7 @@ fn put_back(queue: &mut VecDeque<Marked>, marked: Marked)
     ensures items { queue.new.items ≡ queue.old.items ++ marked ∷ [] }
     ensures capacity { deque_capacity queue.new ≡ deque_capacity queue.old }
 {
-    // Moving a marked change takes a mention of the types in it: the prover has to have seen them.
+    // The prover has to see the types in a marked change before it moves, so the code mentions them.
     let _seen: (Option<Change>, Option<SideQuote>, Option<Lot>) = (None, None, None);
     queue.push_back_reserved(marked);
 }

@@ -1,5 +1,5 @@
-//! The machine that consolidates, in one thread: changes are sent to a queue, taken to the tape, and
-//! published; desks are told of the published version and look at it.
+//! The machine that consolidates, in one thread. Changes are sent to a queue, taken to the tape, and published. Desks learn of
+//! the published version and look at it.
 #![tactic(auto)]
 
 mod best_rows;

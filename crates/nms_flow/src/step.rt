@@ -8,16 +8,16 @@ pub enum Step {
     Send(Feed, Change),
     /// Takes the change at the queue's front to the tape.
     Take,
-    /// Makes the whole tape the published version.
+    /// Makes all of the tape the published version.
     Publish,
-    /// Tells a desk of the published version.
+    /// Lets a desk learn of the published version.
     Tell {
-        /// Which desk; the machine keeps nothing of desks.
+        /// The desk. The machine keeps nothing about desks.
         desk: u8,
     },
     /// Shows a desk one symbol of the published version.
     Look {
-        /// Which desk.
+        /// The desk.
         desk: u8,
         /// The symbol that it looks at.
         sym: Sym,

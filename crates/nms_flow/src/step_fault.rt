@@ -14,7 +14,7 @@ pub enum StepFault {
     QueueEmpty,
     /// F4: the tape has as many changes as the setup's limit.
     TapeFull,
-    /// F5: a taking that would have succeeded ran out of memory.
+    /// F5: a taking that would have succeeded was out of memory.
     NoMemory,
 }
 

@@ -206,7 +206,7 @@ kind_told roster from fields kind.Best = best_told roster from fields
 kind_told roster from fields kind.Through = through_told roster from fields
 kind_told roster from fields kind.Sweep = sweep_told roster from fields
 
--- ---- the whole record
+-- ---- the complete record
 
 count_told : (right : Bool) → told (refuse_if (not right) (of_record fault.FieldCount))
     ≡ or_else fault.FieldCount (if right then None else Some place.Record) None

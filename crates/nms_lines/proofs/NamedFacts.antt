@@ -170,7 +170,7 @@ lacks_plus (c ∷ name) formed =
     let parts = and_parts (is_name_char c) (list_all is_name_char name) formed in
     All-cons (λ byte. (byte == 43) ≡ false) c name (not_plus c parts.0) (lacks_plus name parts.1)
 
--- of letters and digits alone
+-- it has only letters and digits
 abbrev IsPlainName : Name → Type 0
 IsPlainName name = list_all is_name_char name ≡ true
 
@@ -210,7 +210,7 @@ names_back roster finds formed set below some =
 
 -- ---- names that are written
 
--- what stands before one more
+-- the elements before one more
 abbrev pub before_next : {A : Type 0} → List A → List ℕ
 before_next [] = []
 before_next (x ∷ xs) = 43 ∷ []

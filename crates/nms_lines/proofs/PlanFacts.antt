@@ -125,7 +125,7 @@ NoCuts all = IfSome (cuts_in all) (λ cuts. is_few cuts ≡ false)
 none_is : (all : List Record) → cuts_in all ≡ None → NoCuts all
 none_is all none = rw none tt
 
--- a record that has as many fields as it must, and one that does not
+-- a record with the right number of fields, and one with another number
 counted : (word counts : Bool) (first last : FaultPlace)
     → is_ok (refuse_if (not word) first then (λ named. refuse_if (not counts) last)) ≡ true → counts ≡ true
 counted true true first last is = refl
@@ -180,7 +180,7 @@ pub cuts_many : (all left : List Record) (cuts : List Cut) (fields : Record) (cu
 cuts_many all left cuts fields cut was other one full =
     cuts_over all (cuts ++ cut ∷ []) left (cuts_more all left cuts fields cut was other one) (omega (arith, length-append cuts (cut ∷ [])))
 
--- ---- the whole
+-- ---- the complete plan
 
 few : {A : Type 0} (list : List A) → length list ≤ 32 → is_few list ≡ true
 few list within = le-leb (length list) 32 within

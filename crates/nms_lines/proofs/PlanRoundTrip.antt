@@ -97,7 +97,7 @@ flag_back : (manual : Bool) → flag_named (flag_text manual) ≡ Some manual
 flag_back true = refl
 flag_back false = refl
 
--- the field that names participants is read as their set; without it nobody is named
+-- the field that names participants is read as their set; without it none is named
 head_named : (roster : Listing) → Reads roster → (plan : Plan) (certificate : List Cut) → FitsText roster plan certificate
     → (none : Bool) → (plan.order.self_help == nobody) ≡ none → head_in roster (plan_record roster plan)
     ≡ Some (said_by plan certificate).head

@@ -18,7 +18,7 @@ above_test : (is_none unfit : Bool) (number price : ℕ) → tested is_none numb
 above_test true unfit number price is = cc
 above_test false unfit number price is = refl
 
--- a price is fit beside any shares
+-- a price is fit next to any shares
 pub fit_with_price : (number shares : Option ℕ) (price : ℕ) → above_zero number ≡ Ok price → is_unfit number shares ≡ false
 fit_with_price None shares price is = cc
 fit_with_price (Some n) shares price is = above_test (n == 0) (not (is_zero shares)) n price is

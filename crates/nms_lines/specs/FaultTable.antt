@@ -97,7 +97,7 @@ kind_wrong roster from fields kind.Best other = best_wrong roster from fields ot
 kind_wrong roster from fields kind.Through other = through_wrong roster from fields other
 kind_wrong roster from fields kind.Sweep other = sweep_wrong roster from fields other
 
--- the faults of a record of a kind that its source brings, and of one of no such kind: L1 alone
+-- the faults of a record of a kind that its source has; only L1 for a record of no such kind
 abbrev pub record_wrong : Listing → Reading → Record → Option Kind → LineFault → Option FaultPlace
 record_wrong roster from fields None fault.UnknownKind = Some (place.Field 0)
 record_wrong roster from fields None _ = None

@@ -5,8 +5,8 @@ use Rattle.nms_lines.specs.declared.line_fault.LineFault.{LineFault}
 use Rattle.nms_lines.specs.declared.line_fault.LineFault.TheVariants as fault
 use Rattle.nms_lines.specs.declared.line_fault.PlacedFault.{PlacedFault}
 
--- the number of a fault: of those that hold of a record, the one of least number is answered. The numbers from
--- 11 to 13 are of faults that no record has
+-- the number of a fault: if several hold for a record, the one of least number is answered. The numbers from 11 to 13 are of
+-- faults that no record has
 abbrev pub number_of : LineFault → ℕ
 number_of fault.UnknownKind = 1
 number_of fault.FieldCount = 2
@@ -38,7 +38,7 @@ code_of fault.BadLot = codes "L14"
 abbrev pub at : LineFault → ℕ → PlacedFault
 at fault before = record { fault = fault; place = place.Field before }
 
--- a fault of the record as a whole
+-- a fault of the record as such
 abbrev pub of_record : LineFault → PlacedFault
 of_record fault = record { fault = fault; place = place.Record }
 

@@ -32,7 +32,7 @@ is_no_price text = is_none (above_zero (price_number text))
 abbrev pub is_no_shares : List ℕ → Bool
 is_no_shares text = is_none (above_zero (shares_number text))
 
--- an eighth field of an order in which a name, or what stands in the place of one, is not on the roster
+-- an eighth field of an order in which a name, or what is there instead of one, is not on the roster
 abbrev pub has_no_name : Listing → Record → Bool
 has_no_name roster fields = is_none (named_at 7 roster fields)
 

@@ -1,4 +1,4 @@
--- The law of the reading of a record: of the faults that hold, the one of least number is answered, with its place. This
+-- The law about the reading of a record: among the faults that hold, the one of least number is answered, with its place. This
 -- product's own rule.
 use Rattle.std.specs.Prelude.{◌≡◌, ◌<◌, ◌↔◌, ◌++◌, true, false, IsOk, Err, Some, codes}
 use Rattle.std.specs.Fmt.{decimal}

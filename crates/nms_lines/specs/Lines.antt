@@ -88,7 +88,7 @@ sweep_reading roster from fields = do
   desk ← desk_at (desks_of from) fields 1
   Ok (line.Sweep desk (record { side = side; sym = sym; shares = shares; limit = limit; manual = manual; self_help = self_help }))
 
--- the fields of a record of the kind, as many as the kind has
+-- the fields of a record of the kind, with the number that the kind has
 abbrev pub kind_reading : Listing → Reading → Record → Kind → Result Line PlacedFault
 kind_reading roster from fields kind.Quote = quote_reading roster from fields
 kind_reading roster from fields kind.State = state_reading roster from fields

@@ -20,7 +20,7 @@ with_named roster (name ∷ names) set = option_and_then (λ part. with_named ro
 abbrev pub named_in : Listing → List ℕ → Option ℕ
 named_in roster text = with_named roster (joined_names text) nobody
 
--- the participants that a record's last field names, if it is at that place. A shorter record names nobody
+-- the participants that a record's last field names, if it is at that place. A shorter record names none
 abbrev pub named_at : ℕ → Listing → Record → Option ℕ
 named_at place roster fields = if length fields == place + 1 then named_in roster (field fields place) else Some nobody
 

@@ -53,6 +53,6 @@ IsReadBack roster plan certificate =
     AreAllRecords (Some (plan_text roster plan certificate)) (plan_records roster plan certificate)
     × (plan_in roster (plan_records roster plan certificate) ≡ Some (said_by plan certificate))
 
--- so it is with each plan that fits
+-- this holds for each plan that fits
 abbrev pub ReadsAsWritten : Listing → Type 0
 ReadsAsWritten roster = (plan : Plan) (certificate : List Cut) → FitsText roster plan certificate → IsReadBack roster plan certificate

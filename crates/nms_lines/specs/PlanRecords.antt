@@ -23,7 +23,7 @@ use Rattle.nms_lines.specs.declared.line_fault.FaultPlace.TheVariants as place
 use Rattle.nms_lines.specs.declared.plan_record.PlanRecord.{PlanRecord}
 use Rattle.nms_lines.specs.declared.plan_record.PlanRecord.TheVariants as record_of
 
--- a record that begins with that word, and then has as many fields as it must
+-- a record that begins with that word, and then has the right number of fields
 abbrev pub begun : List ℕ → Bool → Record → Result (Unit {0}) FaultPlace
 begun word counted fields = do
   named ← refuse_if (not (is_text word (field fields 0))) (place.Field 0)

@@ -16,11 +16,11 @@ use Rattle.nms_lines.specs.declared.line_fault.PlacedFault.{PlacedFault}
 abbrev pub is_empty : List ℕ → Bool
 is_empty text = length text == 0
 
--- no price, or zero beside shares that do not read as 0
+-- no price, or zero next to shares that do not read as 0
 abbrev pub is_unfit : Option ℕ → Option ℕ → Bool
 is_unfit price shares = not (is_there price) || (is_zero price && not (is_zero shares))
 
--- a price that is there has the form; it may be zero only beside shares that read as 0
+-- a price that is there has the form; it may be zero only next to shares that read as 0
 abbrev pub is_bad_price : List ℕ → List ℕ → Bool
 is_bad_price price shares = not (is_empty price) && is_unfit (price_number price) (shares_number shares)
 

@@ -9,7 +9,7 @@ pub record AppendsPart (old new : Option (List ℕ)) (text : List ℕ) : Type 0 
   pub split : text ≡ part ++ rest
   pub written : Appends old new part
 
--- a prefix of the whole writing was appended
+-- a prefix of the complete writing was appended
 pub record WritesPart (Leaves : Option (List ℕ) → Type 0) (old new : Option (List ℕ)) : Type 0 where
   pub text : List ℕ
   pub whole : Option (List ℕ)

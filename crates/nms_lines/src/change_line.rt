@@ -1,4 +1,4 @@
-//! The records of changes, `Q`, `S`, `X` and `R`: `specs/Lines`.
+//! Reading the records of changes, `Q`, `S`, `X` and `R`: `specs/Lines`.
 ghost use Rattle.std.specs.Prelude.{◌≡◌, IfOk, Some, true};
 ghost use Rattle.csv.specs.Records.{fields_of};
 ghost use Rattle.nms_lines.specs.LineOf.{IsLineOf};
@@ -14,7 +14,7 @@ use crate::side::sides_in;
 use csv::ByteRecord;
 use nms_quote::{Change, Feed, Roster};
 
-/// `Q,part,sym,state,bid,bidshares,offer,offershares`
+/// Reads `Q,part,sym,state,bid,bidshares,offer,offershares`.
 pub(crate) fn quote_line(
     row: &ByteRecord,
     roster: &Roster,
@@ -39,7 +39,7 @@ pub(crate) fn quote_line(
     }))
 }
 
-/// `S,part,sym,state`
+/// Reads `S,part,sym,state`.
 pub(crate) fn state_line(
     row: &ByteRecord,
     roster: &Roster,
@@ -57,7 +57,7 @@ pub(crate) fn state_line(
     Ok(Line::Change(Change::State { part, sym, state }))
 }
 
-/// `X,part`
+/// Reads `X,part`.
 pub(crate) fn withdraw_line(
     row: &ByteRecord,
     roster: &Roster,
@@ -73,7 +73,7 @@ pub(crate) fn withdraw_line(
     Ok(Line::Change(Change::Withdraw { part }))
 }
 
-/// `R,sym,lot`, or `R,sym,AVG,price`: a round lot is of the first feed. The lot is checked last.
+/// Reads `R,sym,lot` or `R,sym,AVG,price`. A round lot belongs to the first feed. The lot is checked last.
 pub(crate) fn lot_line(
     row: &ByteRecord,
     roster: &Roster,
@@ -91,7 +91,7 @@ pub(crate) fn lot_line(
     Ok(Line::Change(Change::Lot { sym, lot }))
 }
 
-/// Whether the source is a feed, and what belongs to this feed belongs to another.
+/// Whether the source is a feed, and the owner of a record is another feed.
 fn is_foreign(from: Reading, owner: Feed) -> bool
     ensures { result ≡ is_foreign from (Some owner) }
 {

@@ -1,4 +1,4 @@
-//! Records that have to be changes: `specs/ChangeReading`.
+//! Reading records that have to be changes: `specs/ChangeReading`.
 ghost use Rattle.std.specs.Prelude.{◌≡◌, Ok, Err, IfErr, IfOk, true};
 ghost use Rattle.csv.specs.Records.{fields_of};
 ghost use Rattle.nms_quote.specs.Roster.{holds, sizes_of};
@@ -11,7 +11,7 @@ use crate::line_reading::read_line;
 use csv::ByteRecord;
 use nms_quote::{Change, Feed, Roster};
 
-/// The change that a record of a file of changes says. `UnknownKind` if it is of another kind.
+/// The change that a record of a file of changes gives. `UnknownKind` if it is of another kind.
 pub fn read_change(row: &ByteRecord, roster: &Roster) -> Result<Change, LineFault>
     ensures line { result ≡ change_reading roster.now (fields_of row.now) }
     ensures there { IfOk result (λ change. holds (sizes_of roster.now) change ≡ true) }
@@ -31,7 +31,7 @@ pub fn read_change(row: &ByteRecord, roster: &Roster) -> Result<Change, LineFaul
     }
 }
 
-/// The change that a record of a feed says: one of the feed's own participants, or a round lot from feed A.
+/// The change that a record of a feed gives. It is one of the feed's participants, or a round lot from feed A.
 pub fn read_feed_change(row: &ByteRecord, roster: &Roster, feed: Feed) -> Result<Change, LineFault>
     ensures said { IfOk result (λ change. feed_reading roster.now feed (fields_of row.now) ≡ Ok (line.Change change)) }
     ensures own { IfOk result (IsOwn roster.now feed) }

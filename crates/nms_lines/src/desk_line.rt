@@ -1,4 +1,4 @@
-//! The records of desks, `L`, `N`, `E` and `O`: `specs/Lines`.
+//! Reading the records of desks, `L`, `N`, `E` and `O`: `specs/Lines`.
 ghost use Rattle.std.specs.Prelude.{◌≡◌, IfOk, true};
 ghost use Rattle.csv.specs.Records.{fields_of};
 ghost use Rattle.nms_quote.specs.Roster.{Listing};
@@ -15,7 +15,7 @@ use crate::number::{desk_at, price_at, shares_at};
 use csv::ByteRecord;
 use nms_quote::{Order, Roster};
 
-/// `L,desk`
+/// Reads `L,desk`.
 pub(crate) fn tell_line(row: &ByteRecord, from: Reading) -> Result<Line, PlacedFault>
     ensures line { result ≡ tell_reading from (fields_of row.now) }
     ensures of { brings from Kind.Tell ≡ true → (roster : Listing) → IfOk result (IsLineOf roster from) }
@@ -24,7 +24,7 @@ pub(crate) fn tell_line(row: &ByteRecord, from: Reading) -> Result<Line, PlacedF
     Ok(Line::Tell { desk })
 }
 
-/// `N,desk,sym`
+/// Reads `N,desk,sym`.
 pub(crate) fn best_line(
     row: &ByteRecord,
     roster: &Roster,
@@ -38,7 +38,7 @@ pub(crate) fn best_line(
     Ok(Line::Best { desk, sym })
 }
 
-/// `E,desk,sym,price`
+/// Reads `E,desk,sym,price`.
 pub(crate) fn through_line(
     row: &ByteRecord,
     roster: &Roster,
@@ -53,7 +53,7 @@ pub(crate) fn through_line(
     Ok(Line::Through { desk, sym, price })
 }
 
-/// `O,desk,side,sym,shares,limit`, then the flag `M`, then the participants named
+/// Reads `O,desk,side,sym,shares,limit`, then the flag `M`, then the participants named.
 pub(crate) fn sweep_line(
     row: &ByteRecord,
     roster: &Roster,
@@ -73,7 +73,7 @@ pub(crate) fn sweep_line(
     Ok(Line::Sweep { desk, order })
 }
 
-/// The number of desks: a feed and a file of changes have none.
+/// The number of desks. A feed and a file of changes have none.
 fn desks_of(from: Reading) -> u8
     ensures { result ≡ desks_of from }
 {

@@ -1,11 +1,11 @@
-//! A field of a record: `specs/Layout`.
+//! Reading a field of a record: `specs/Layout`.
 ghost use Rattle.std.specs.Prelude.{◌≡◌};
 ghost use Rattle.csv.specs.Records.{fields_of};
 ghost use Rattle.nms_lines.specs.Layout.{field, is_text};
 
 use csv::ByteRecord;
 
-/// The field at a place, empty past the last.
+/// The field at a place; empty past the last.
 #[tactic(auto, using(crate::proofs::FieldFacts::field_at_lem))]
 pub fn field(row: &ByteRecord, place: usize) -> &[u8]
     ensures { result.now ≡ field (fields_of row.now) place }
@@ -16,7 +16,7 @@ pub fn field(row: &ByteRecord, place: usize) -> &[u8]
     }
 }
 
-/// Whether a field is a word.
+/// Whether a field is the given word.
 pub(crate) fn is_word(text: &[u8], word: &[u8]) -> bool
     ensures { result ≡ is_text word.now text.now }
 {

@@ -1,5 +1,5 @@
-//! Fields of a record written from the last to the first, each before the bytes already in a buffer (`later_fields` of
-//! `specs/Text`). A number gives its last digit first; the whole record is then appended at once.
+//! Fields of a record, written from the last to the first, each before the bytes that are already in a buffer (`later_fields`
+//! of `specs/Text`). A number gives its last digit first. Then all of the record is appended at once.
 ghost use Rattle.std.specs.Prelude.{◌≡◌, ◌+◌, ◌<◌, ◌≤◌, ◌/◌, ◌++◌, ◌∷◌, drop, length};
 ghost use Rattle.std.specs.Fmt.{decimal};
 ghost use Rattle.nms_units.specs.Money.{amount_text, money_text, three_digits};
@@ -8,7 +8,7 @@ ghost use Rattle.nms_units.specs.Price.{digit_at, price_text};
 use itoa::{Buffer, write_digits};
 use nms_units::{Money, Price};
 
-/// Writes a text so that it ends at a place. Returns where it starts.
+/// Writes a text so that it ends at a place. Returns the place at which it starts.
 pub fn word_before(buf: &mut [u8], end: usize, word: &str) -> usize
     requires room { length word.now ≤ end }
     requires within { end ≤ length buf.old }
@@ -20,7 +20,7 @@ pub fn word_before(buf: &mut [u8], end: usize, word: &str) -> usize
     start
 }
 
-/// Writes a comma and a text so that they end at a place. Returns where they start.
+/// Writes a comma and a text so that they end at a place. Returns the place at which they start.
 pub fn text_before(buf: &mut [u8], end: usize, text: &str) -> usize
     requires room { length text.now < end }
     requires within { end ≤ length buf.old }
@@ -31,7 +31,7 @@ pub fn text_before(buf: &mut [u8], end: usize, text: &str) -> usize
     byte_before(buf, start, b',')
 }
 
-/// Writes a comma and a number, which take 2 to 21 bytes, so that they end at a place. Returns where they start.
+/// Writes a comma and a number, which take 2 to 21 bytes, so that they end at a place. Returns the place at which they start.
 #[inline(always)]
 pub fn number_before(buf: &mut [u8], end: usize, number: u64) -> usize
     requires room { 21 ≤ end }
@@ -44,7 +44,7 @@ pub fn number_before(buf: &mut [u8], end: usize, number: u64) -> usize
     byte_before(buf, start, b',')
 }
 
-/// Writes a number's 1 to 20 digits so that they end at a place. Returns where they start.
+/// Writes a number's 1 to 20 digits so that they end at a place. Returns the place at which they start.
 #[inline(always)]
 fn digits_before(buf: &mut [u8], end: usize, number: u64) -> usize
     requires room { 20 ≤ end }
@@ -56,7 +56,7 @@ fn digits_before(buf: &mut [u8], end: usize, number: u64) -> usize
     write_digits(number, buf, end)
 }
 
-/// Writes a comma and a price, which take 7 to 13 bytes, so that they end at a place. Returns where they start.
+/// Writes a comma and a price, which take 7 to 13 bytes, so that they end at a place. Returns the place at which they start.
 #[inline(always)]
 pub fn price_before(buf: &mut [u8], end: usize, price: Price) -> usize
     requires room { 26 ≤ end }
@@ -70,7 +70,7 @@ pub fn price_before(buf: &mut [u8], end: usize, price: Price) -> usize
     number_before(buf, point, number / 10_000)
 }
 
-/// Writes a point and a number's last four digits so that they end at a place. Returns where they start.
+/// Writes a point and a number's last four digits so that they end at a place. Returns the place at which they start.
 fn decimals_before(buf: &mut [u8], end: usize, number: u64) -> usize
     requires room { 5 ≤ end }
     requires within { end ≤ length buf.old }
@@ -82,8 +82,8 @@ fn decimals_before(buf: &mut [u8], end: usize, number: u64) -> usize
     byte_before(buf, start, b'.')
 }
 
-/// Writes a comma and an amount of money, which take 12 to 42 bytes, so that they end at a place. Returns where they
-/// start.
+/// Writes a comma and an amount of money, which take 12 to 42 bytes, so that they end at a place. Returns the place at which
+/// they start.
 pub fn money_before(buf: &mut [u8], end: usize, money: Money) -> usize
     requires room { 52 ≤ end }
     requires within { end ≤ length buf.old }
@@ -101,8 +101,8 @@ pub fn money_before(buf: &mut [u8], end: usize, money: Money) -> usize
     }
 }
 
-/// Writes nanodollars as dollars with nine decimals so that they end at a place. Returns where they start. Amounts of up
-/// to 18 billion dollars, which 64 bits hold, are written without 128 bits.
+/// Writes nanodollars as dollars with nine decimals so that they end at a place. Returns the place at which they start. Amounts
+/// of up to 18 billion dollars, which 64 bits hold, are written without 128 bits.
 fn amount_before(buf: &mut [u8], end: usize, amount: u128) -> usize
     requires room { 50 ≤ end }
     requires within { end ≤ length buf.old }
@@ -134,7 +134,7 @@ fn wide_before(buf: &mut [u8], end: usize, amount: u128) -> usize
     word_before(buf, start, dollars.format(amount / 1_000_000_000))
 }
 
-/// Writes a point and a number's last nine digits so that they end at a place. Returns where they start.
+/// Writes a point and a number's last nine digits so that they end at a place. Returns the place at which they start.
 fn nine_before(buf: &mut [u8], end: usize, number: u64) -> usize
     requires room { 10 ≤ end }
     requires within { end ≤ length buf.old }
@@ -148,7 +148,7 @@ fn nine_before(buf: &mut [u8], end: usize, number: u64) -> usize
     byte_before(buf, start, b'.')
 }
 
-/// Writes a number's last three digits so that they end at a place. Returns where they start.
+/// Writes a number's last three digits so that they end at a place. Returns the place at which they start.
 fn three_before(buf: &mut [u8], end: usize, number: u64) -> usize
     requires room { 3 ≤ end }
     requires within { end ≤ length buf.old }

@@ -1,4 +1,4 @@
-//! The kind of a record, and the kinds that its source brings: `specs/Layout` and `specs/Sources`.
+//! The kind of a record, and the kinds that its source has: `specs/Layout` and `specs/Sources`.
 ghost use Rattle.std.specs.Prelude.{◌≡◌, ◌∷◌, [], IfSome, true};
 ghost use Rattle.csv.specs.Records.{fields_of};
 ghost use Rattle.nms_lines.specs.Layout.{is_count, kind_named};
@@ -8,7 +8,7 @@ use crate::field::field;
 use crate::line::{Kind, Reading};
 use csv::ByteRecord;
 
-/// The kind that a record's first field names, if its source brings it.
+/// The kind that a record's first field names, if its source has it.
 pub(crate) fn kind_in(row: &ByteRecord, from: Reading) -> Option<Kind>
     ensures kind { result ≡ kind_in from (fields_of row.now) }
     ensures brought { IfSome result (λ kind. brings from kind ≡ true) }
@@ -49,7 +49,7 @@ fn kind_of_letter(letter: u8) -> Option<Kind>
     }
 }
 
-/// Whether the source brings records of the kind.
+/// Whether the source has records of the kind.
 fn brings(from: Reading, kind: Kind) -> bool
     ensures { result ≡ brings from kind }
 {

@@ -1,4 +1,4 @@
-//! The fields that are one letter: `specs/Fields`.
+//! Reading the fields that are one letter: `specs/Fields`.
 ghost use Rattle.std.specs.Prelude.{◌≡◌};
 ghost use Rattle.csv.specs.Records.{fields_of};
 ghost use Rattle.nms_lines.specs.Fields.{flag_in, flag_named, flag_of, side_at, side_named, state_at, state_named};
@@ -44,8 +44,8 @@ pub fn side_of(text: &[u8]) -> Option<OrderSide>
     }
 }
 
-/// Whether an order's record has the flag that allows manual quotations; `BadState` if its seventh field is something
-/// else. As the last field the flag is not empty.
+/// Whether an order's record has the flag that allows manual quotations; `BadState` if its seventh field is something else. If
+/// the flag is the last field, it is not empty.
 pub(crate) fn flag_in(row: &ByteRecord) -> Result<bool, PlacedFault>
     ensures { result ≡ flag_in (fields_of row.now) }
 {

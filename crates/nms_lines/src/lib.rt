@@ -1,4 +1,4 @@
-//! The layout of records: what a record says, or why it is refused.
+//! The layout of records: what a record means, or why it is refused.
 #![tactic(auto)]
 
 mod change_line;

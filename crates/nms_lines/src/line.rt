@@ -1,28 +1,27 @@
-//! What records say, and their sources. The words of `specs/Layout`, `specs/Sources` and `specs/LineOf` are over these
-//! types.
+//! What records mean, and their sources. The words of `specs/Layout`, `specs/Sources` and `specs/LineOf` are over these types.
 use nms_quote::{Change, Feed, Order, Sym};
 use nms_units::Price;
 
 /// The source of a record, which decides the kinds that it may have. This product's own rule.
 #[derive(Clone, Copy)]
 pub enum Reading {
-    /// A script: every kind.
+    /// A script, which may have every kind.
     Script {
         /// The setup's number of desks, 1 to 16.
         desks: u8,
     },
-    /// A feed: `Q`, `S` and `X` of its own participants only, and `R` on the first feed.
+    /// A feed. It has `Q`, `S` and `X` of its own participants only, and the first feed has `R`.
     FromFeed(Feed),
-    /// A file of changes: `Q`, `S` and `X` of any participant, and `R`.
+    /// A file of changes, which has `Q`, `S` and `X` of any participant, and `R`.
     Changes,
-    /// A file of orders: `O` only.
+    /// A file of orders, which has only `O`.
     Orders {
         /// The setup's number of desks, 1 to 16.
         desks: u8,
     },
 }
 
-/// What a record says.
+/// What a record means.
 #[derive(Clone, Copy, Debug)]
 pub enum Line {
     /// `Q`, `S` or `X`: a participant's change; `R`: a new round lot.
@@ -68,24 +67,24 @@ pub enum Line {
 pub enum Kind {
     /// `Q`: both sides and the state of a participant's quotations in a symbol.
     Quote,
-    /// `S`: the state alone.
+    /// `S`: only the state.
     State,
-    /// `X`: the participant quotes no symbol any more.
+    /// `X`: the participant no longer quotes any symbol.
     Withdraw,
-    /// `R`: a symbol's round lot from now on (17 CFR 242.600, "round lot").
+    /// `R`: the new round lot of a symbol (17 CFR 242.600, "round lot").
     Lot,
-    /// `T`.
+    /// `T`: takes one queued change to the tape.
     TakeOne,
-    /// `F`.
+    /// `F`: takes until the queue is empty, then publishes.
     TakeAll,
-    /// `P`.
+    /// `P`: publishes.
     Publish,
-    /// `L`.
+    /// `L`: reports the published version to a desk.
     Tell,
-    /// `N`.
+    /// `N`: asks for the national best bid and offer.
     Best,
-    /// `E`.
+    /// `E`: asks what a trade at a price trades through.
     Through,
-    /// `O`.
+    /// `O`: asks for the plan of an order.
     Sweep,
 }

@@ -9,7 +9,7 @@ use thiserror::Error;
 /// Why a record is refused. The fault that holds with the least number is reported.
 #[derive(Clone, Copy, Debug, PartialEq, Eq, Error)]
 pub enum LineFault {
-    /// L1: the first field is not a kind that the record's source brings.
+    /// L1: the first field is not a kind that the record's source may have.
     UnknownKind,
     /// L2: the number of fields is not the kind's.
     FieldCount,
@@ -19,7 +19,7 @@ pub enum LineFault {
     UnknownSymbol,
     /// L5: the state, the order's side or its flag is none of its letters, or the word before an average is not `AVG`.
     BadState,
-    /// L6: a price is not of the form, or is zero when a quotation, an order or a round lot needs one.
+    /// L6: a price does not have its form, or is zero when a quotation, an order or a round lot needs one.
     BadPrice,
     /// L7: a share count is not 1 to 9 digits, or is zero when an order needs one.
     BadShares,
@@ -33,21 +33,21 @@ pub enum LineFault {
     BadLot,
 }
 
-/// Where a record is wrong.
+/// The place at which a record is wrong.
 #[derive(Clone, Copy, Debug, PartialEq, Eq)]
 pub enum FaultPlace {
-    /// As a whole: it has another number of fields than its kind.
+    /// The record as such: it has another number of fields than its kind.
     Record,
-    /// In the field after n others.
+    /// The field after n others.
     Field(u8),
 }
 
-/// A fault of a record, and where the record has it.
+/// A fault of a record, and its place in the record.
 #[derive(Clone, Copy, Debug, PartialEq, Eq)]
 pub struct PlacedFault {
     /// The fault.
     pub fault: LineFault,
-    /// Where it is.
+    /// The place of the fault.
     pub place: FaultPlace,
 }
 

@@ -1,4 +1,4 @@
-//! The reading of a record: `specs/Lines`.
+//! Reading a record: `specs/Lines`.
 ghost use Rattle.std.specs.Prelude.{◌≡◌, IfOk, true};
 ghost use Rattle.csv.specs.Records.{fields_of};
 ghost use Rattle.nms_lines.specs.LineOf.{IsLineOf};
@@ -13,8 +13,8 @@ use crate::line_fault::{FaultPlace, LineFault, PlacedFault};
 use csv::ByteRecord;
 use nms_quote::Roster;
 
-/// What a record says, or its fault of the least number (the law `the_least_fault_is_read`). A record of a kind that
-/// its source does not bring is `UnknownKind`, whatever the rest is.
+/// The line that a record gives, or its fault of the least number (the law `the_least_fault_is_read`). A record of a kind that
+/// its source may not have is `UnknownKind`, even if the rest is wrong too.
 ///
 /// It takes no memory. If both sides quote, in cents, each field is read once.
 pub fn read_line(row: &ByteRecord, roster: &Roster, from: Reading) -> Result<Line, LineFault>
@@ -27,7 +27,7 @@ pub fn read_line(row: &ByteRecord, roster: &Roster, from: Reading) -> Result<Lin
     }
 }
 
-/// As `read_line`, with the place of the fault: the field that has it, of several the first, or the record as a whole.
+/// As `read_line`, with the place of the fault: the first field that has it, or the record as such.
 pub fn read_line_at(row: &ByteRecord, roster: &Roster, from: Reading) -> Result<Line, PlacedFault>
     ensures line { result ≡ placed_reading roster.now from (fields_of row.now) }
     ensures of { IfOk result (IsLineOf roster.now from) }
@@ -44,7 +44,7 @@ pub fn read_line_at(row: &ByteRecord, roster: &Roster, from: Reading) -> Result<
     line_of_kind(row, roster, from, kind)
 }
 
-/// What the fields of a record say, of a kind that its source brings.
+/// The line that the fields of a record give, if its source may have the kind.
 fn line_of_kind(
     row: &ByteRecord,
     roster: &Roster,

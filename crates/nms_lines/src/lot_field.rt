@@ -1,4 +1,4 @@
-//! The fields of a round lot: `specs/Fields`.
+//! Reading the fields of a round lot: `specs/Fields`.
 ghost use Rattle.std.specs.Prelude.{◌≡◌};
 ghost use Rattle.csv.specs.Records.{fields_of};
 ghost use Rattle.nms_lines.specs.Fields.{average_in, lot_in};

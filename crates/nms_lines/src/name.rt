@@ -1,4 +1,4 @@
-//! The fields that are names of the roster: `specs/Fields`.
+//! Reading the fields that are names of the roster: `specs/Fields`.
 ghost use Rattle.std.specs.Prelude.{◌≡◌, ◌<◌, length, IfOk};
 ghost use Rattle.csv.specs.Records.{fields_of};
 ghost use Rattle.nms_lines.specs.Fields.{part_at, symbol_at};

@@ -1,4 +1,4 @@
-//! Participants named in one field: `specs/Named`.
+//! Reading participants named in one field: `specs/Named`.
 ghost use Rattle.std.specs.Prelude.{◌≡◌, ◌<◌, IfOk, IfSome, length};
 ghost use Rattle.csv.specs.Records.{fields_of};
 ghost use Rattle.nms_lines.specs.Fields.{self_help_in};
@@ -9,10 +9,10 @@ use crate::line_fault::{LineFault, PlacedFault};
 use csv::ByteRecord;
 use nms_quote::{PartSet, Roster};
 
-/// The participants that a text names: names of the roster joined by `+`, in any order; a repeated one counts once.
-/// `None` if one of them is empty or not on the roster.
+/// The participants that a text names: names of the roster joined by `+`, in any order; a repeated one counts once. `None` if
+/// one of them is empty or not on the roster.
 ///
-/// It takes no memory. An order names in it the participants that have no protected quotation for it (17 CFR 242.611(b)(1)).
+/// It takes no memory. In this text an order names the participants that have no protected quotation for it (17 CFR 242.611(b)(1)).
 pub fn read_names(text: &[u8], roster: &Roster) -> Option<PartSet>
     ensures set { result ≡ named_in roster.now text.now }
     ensures there { IfSome result (AreBelow (length roster.now.parts)) }
@@ -25,7 +25,7 @@ pub fn read_names(text: &[u8], roster: &Roster) -> Option<PartSet>
     Some(set)
 }
 
-/// The participants that a record's last field names, if it is at that place. A shorter record names nobody.
+/// The participants that a record's last field names, if it is at that place. A shorter record names no participant.
 pub(crate) fn named_at(row: &ByteRecord, place: usize, roster: &Roster) -> Option<PartSet>
     requires { place < 16 }
     ensures set { result ≡ named_at place roster.now (fields_of row.now) }

@@ -1,4 +1,4 @@
-//! The fields that are numbers: `specs/Fields`.
+//! Reading the fields that are numbers: `specs/Fields`.
 ghost use Rattle.std.specs.Prelude.{◌≡◌, ◌<◌, ◌≤◌, IfOk, IfSome};
 ghost use Rattle.csv.specs.Records.{fields_of};
 ghost use Rattle.nms_lines.specs.Fields.{desk_at, price_at, shares_at};
@@ -10,14 +10,14 @@ use crate::line_fault::{LineFault, PlacedFault};
 use csv::ByteRecord;
 use nms_units::{Price, Shares, parse_digits};
 
-/// The price that a text is, in 1/10,000 dollar; never zero.
+/// The price of a text, in 1/10,000 dollar; never zero.
 pub fn price_of(text: &[u8]) -> Option<Price>
     ensures { result ≡ above_zero (price_number text.now) }
 {
     Price::parse(text).ok()
 }
 
-/// The shares that a text is, if they are at least one.
+/// The shares of a text, if they are at least one.
 pub fn some_shares_of(text: &[u8]) -> Option<Shares>
     ensures shares { result ≡ above_zero (shares_number text.now) }
     ensures some { IfSome result (λ shares. 1 ≤ shares) }
@@ -43,7 +43,7 @@ pub(crate) fn shares_at(row: &ByteRecord, place: u8) -> Result<Shares, PlacedFau
     some_shares_of(field(row, place as usize)).ok_or(PlacedFault::at(LineFault::BadShares, place))
 }
 
-/// The desk that 1 or 2 digits name, if there is one of that number, or `BadDesk`.
+/// The desk that 1 or 2 digits name, if there is one with that number, or `BadDesk`.
 pub(crate) fn desk_at(desks: u8, row: &ByteRecord, place: u8) -> Result<u8, PlacedFault>
     ensures desk { result ≡ desk_at desks (fields_of row.now) place }
     ensures there { IfOk result (λ desk. desk < desks) }

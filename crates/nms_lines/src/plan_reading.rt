@@ -1,4 +1,4 @@
-//! A plan and its certificate read from text: `specs/PlanReading`.
+//! Reading a plan and its certificate from text: `specs/PlanReading`.
 ghost use Rattle.std.specs.Prelude.{◌⊎◌, ◌≡◌, ◌≢◌, ◌++◌, ◌∷◌, ◌<◌, [], ℕ, List, Some, None, true, false, All, IfOk, IfSome, OnErr, Ok, Err, length};
 ghost use Rattle.csv.specs.Records.{fields_of};
 ghost use Rattle.nms_lines.specs.Layout.{Record};
@@ -18,13 +18,13 @@ use nms_quote::{Certificate, Leg, Plan, Roster};
 use std::alloc::Global;
 use std::io::Read;
 
-/// Reads a plan and its certificate from text of exactly this layout: the record of the plan, at most 32 legs, at most
-/// 32 cuts, an end, and nothing after it. Names are of the roster. Prices, share counts and money are as their types
-/// read them. A version is 1 to 8 digits, and the order is of at least one share. A tenth field of the plan's record
-/// holds the participants that the order names, as an order's eighth field does.
+/// Reads a plan and its certificate from text of exactly this layout: the record of the plan, at most 32 legs, at most 32 cuts,
+/// and an end. Nothing may follow. Names are of the roster. Prices, share counts and money are as their types read them. A
+/// version is 1 to 8 digits, and the order is of at least one share. A tenth field of the plan's record holds the participants
+/// that the order names, as an order's eighth field does.
 ///
-/// What is read can be written by `write_plan` on the same roster. It need not be lawful: `nms_rules` and `nms_cert`
-/// judge that. Any other text is `BadPlanText`. If memory ran out, the error is `NoMemory`.
+/// `write_plan` can write what is read on the same roster. It need not be lawful: `nms_rules` and `nms_cert` judge that. Any
+/// other text is `BadPlanText`. The error is `NoMemory` if out of memory.
 pub fn read_plan(
     alloc: Global,
     text: &[u8],
@@ -39,14 +39,14 @@ pub fn read_plan(
         → result ≡ Err PlanTextFault.BadPlanText → plan_in roster.now records ≡ None }
     ensures faults { result ≢ Err PlanTextFault.WriteFault }
 {
-    // A reader contains its buffer, and each place that holds a reader takes that much of the stack. So this reader is
-    // never moved: a program with little memory has no stack beyond its first 128 kB.
+    // A reader contains its buffer, and each place that holds a reader takes that much of the stack. So this reader is never
+    // moved, because a program with little memory has no stack beyond its first 128 kB.
     let mut reader = open_records(alloc, text);
     let mut row = ByteRecord::new(alloc);
     read_records(&mut reader, &mut row, roster)
 }
 
-/// As `read_plan`, with a given row. It takes no memory if the row has room for the text's bytes and one field more.
+/// As `read_plan`, with a given row. It takes no memory if the row has room for the text's bytes and one more field.
 pub fn read_plan_by(
     alloc: Global,
     row: &mut ByteRecord,
@@ -68,7 +68,7 @@ pub fn read_plan_by(
     }
 }
 
-/// Reads a plan and its certificate from the records that are left.
+/// Reads a plan and its certificate from the remaining records.
 fn read_records<R: Read>(
     reader: &mut Reader<R>,
     row: &mut ByteRecord,
@@ -128,7 +128,7 @@ fn read_legs<R: Read>(
     ensures faults { result ≢ Err PlanTextFault.WriteFault }
 {
     let mut legs = ArrayVec::new_in(());
-    // one turn for each leg, and one for what comes after them
+    // There is one turn for each leg, and one for the record after them.
     for _ in 0_usize..33 {
         need_row(reader, row)?;
         let Some(leg) = leg_in(row, roster).ok() else {
@@ -153,7 +153,7 @@ fn read_cuts<R: Read>(
     ensures faults { result ≢ Err PlanTextFault.WriteFault }
 {
     let mut cuts = ArrayVec::new_in(());
-    // one turn for each cut, and one for the end
+    // There is one turn for each cut, and one for the end.
     for _ in 0_usize..33 {
         if is_end(row) {
             need_end(reader, row)?;
@@ -180,12 +180,12 @@ fn need_row<R: Read>(reader: &mut Reader<R>, row: &mut ByteRecord) -> Result<(),
     match read_next(reader, row) {
         Ok(true) => Ok(()),
         Ok(false) => Err(PlanTextFault::BadPlanText),
-        // a text in memory is always read: only memory can fail
+        // A text in memory is always read, so only memory can fail.
         Err(RecordFault::Failed | RecordFault::NoMemory) => Err(PlanTextFault::NoMemory),
     }
 }
 
-/// Reads on; no record may be left.
+/// Reads on. There must be no further record.
 fn need_end<R: Read>(reader: &mut Reader<R>, row: &mut ByteRecord) -> Result<(), PlanTextFault>
     ensures read { (left : List Record) → AreLeft R.remaining reader.old left → result ≡ Ok tt → left ≡ [] }
     ensures refused { (left : List Record) → AreLeft R.remaining reader.old left
@@ -195,7 +195,7 @@ fn need_end<R: Read>(reader: &mut Reader<R>, row: &mut ByteRecord) -> Result<(),
     match read_next(reader, row) {
         Ok(true) => Err(PlanTextFault::BadPlanText),
         Ok(false) => Ok(()),
-        // a text in memory is always read: only memory can fail
+        // A text in memory is always read, so only memory can fail.
         Err(RecordFault::Failed | RecordFault::NoMemory) => Err(PlanTextFault::NoMemory),
     }
 }

@@ -1,4 +1,4 @@
-//! The records of a plan's text, one by one: `specs/PlanRecords`.
+//! Reading the records of a plan's text, one by one: `specs/PlanRecords`.
 ghost use Rattle.std.specs.Prelude.{◌≡◌, ◌<◌, IfOk, is_ok, length};
 ghost use Rattle.csv.specs.Records.{fields_of};
 ghost use Rattle.nms_lines.specs.Named.{AreBelow};
@@ -21,15 +21,15 @@ use std::marker::Model;
 pub enum PlanRecord {
     /// `PLAN`: the plan, without its legs.
     Plan,
-    /// `LEG`: a part of it.
+    /// `LEG`: a leg of the plan.
     Leg,
     /// `CUT`: a cut of its certificate.
     Cut,
-    /// `END`.
+    /// `END`: the end of the text.
     End,
 }
 
-/// What the record of a plan says.
+/// The fields of the record of a plan.
 #[derive(Drop)]
 pub(crate) struct PlanHead {
     pub(crate) version: u64,
@@ -46,8 +46,8 @@ impl Model for PlanHead {
     ghost view = { λ h. record { version = h.version; order = h.order; filled = h.filled; cost = h.cost } };
 }
 
-/// Where a record is wrong as one of that sort: its first word, the number of its fields, or the first field that a plan can't
-/// have. None if it is read.
+/// The place at which a record is wrong for the given kind: its first word, the number of its fields, or the first field that a
+/// plan can't have. None if it is read.
 pub fn wrong_place(sort: PlanRecord, row: &ByteRecord, roster: &Roster) -> Option<FaultPlace>
     ensures { result ≡ wrong_as sort roster.now (fields_of row.now) }
 {
@@ -62,7 +62,7 @@ pub fn wrong_place(sort: PlanRecord, row: &ByteRecord, roster: &Roster) -> Optio
     }
 }
 
-/// What the record of a plan says, if the row is one.
+/// The fields of the record of a plan, if the row is one.
 pub(crate) fn head_in(row: &ByteRecord, roster: &Roster) -> Result<PlanHead, FaultPlace>
     ensures head { result ≡ head_reading roster.now (fields_of row.now) }
     ensures there { IfOk result (λ head. head.order.sym < length roster.now.syms) }
@@ -86,7 +86,7 @@ pub(crate) fn head_in(row: &ByteRecord, roster: &Roster) -> Result<PlanHead, Fau
     })
 }
 
-/// The leg that the row is, if it is one.
+/// The leg in the row, if it is one.
 pub(crate) fn leg_in(row: &ByteRecord, roster: &Roster) -> Result<Leg, FaultPlace>
     ensures leg { result ≡ leg_reading roster.now (fields_of row.now) }
     ensures there { IfOk result (λ leg. leg.part < length roster.now.parts) }
@@ -102,7 +102,7 @@ pub(crate) fn leg_in(row: &ByteRecord, roster: &Roster) -> Result<Leg, FaultPlac
     })
 }
 
-/// The cut that the row is, if it is one.
+/// The cut in the row, if it is one.
 pub(crate) fn cut_in(row: &ByteRecord) -> Result<Cut, FaultPlace>
     ensures { result ≡ cut_reading (fields_of row.now) }
 {
@@ -119,14 +119,14 @@ pub(crate) fn is_end(row: &ByteRecord) -> bool
     end_in(row).is_ok()
 }
 
-/// The end, if the row is it.
+/// Checks that the row is the end.
 fn end_in(row: &ByteRecord) -> Result<(), FaultPlace>
     ensures { result ≡ end_reading (fields_of row.now) }
 {
     begin(row, b"END", row.len() == 1)
 }
 
-/// Tests the first word of a row, and then whether it has as many fields as it must.
+/// Tests the first word of a row, and then whether it has the right number of fields.
 fn begin(row: &ByteRecord, word: &[u8], is_counted: bool) -> Result<(), FaultPlace>
     ensures { result ≡ begun word.now is_counted (fields_of row.now) }
 {
@@ -139,7 +139,7 @@ fn begin(row: &ByteRecord, word: &[u8], is_counted: bool) -> Result<(), FaultPla
     Ok(())
 }
 
-/// What a cut says.
+/// The kind of a cut, by its word and its value.
 fn kind_in(word: &[u8], value: &[u8]) -> Result<CutKind, FaultPlace>
     ensures { result ≡ kind_said word.now value.now }
 {
@@ -156,7 +156,7 @@ fn kind_in(word: &[u8], value: &[u8]) -> Result<CutKind, FaultPlace>
     Ok(CutKind::Marginal(money))
 }
 
-/// What a cut says with an empty field after it.
+/// The kind of a cut that has an empty field after its word.
 fn without_value(value: &[u8], kind: CutKind) -> Option<CutKind>
     ensures { result ≡ without_value value.now kind }
 {
@@ -166,14 +166,14 @@ fn without_value(value: &[u8], kind: CutKind) -> Option<CutKind>
     }
 }
 
-/// Shares, 0 or more.
+/// A number of shares, 0 or more.
 fn shares_in(text: &[u8]) -> Option<Shares>
     ensures { result ≡ shares_number text.now }
 {
     Shares::parse(text).ok()
 }
 
-/// Money.
+/// An amount of money.
 fn money_in(text: &[u8]) -> Option<Money>
     ensures { result ≡ money_number text.now }
 {

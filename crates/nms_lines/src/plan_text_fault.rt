@@ -5,7 +5,7 @@ use thiserror::Error;
 /// Why a plan was not read from text, or not written as text.
 #[derive(Clone, Copy, Debug, PartialEq, Eq, Error)]
 pub enum PlanTextFault {
-    /// L11: the text is not exactly that of a plan with certificate.
+    /// L11: the text is not exactly that of a plan with its certificate.
     BadPlanText,
     /// L12: out of memory.
     NoMemory,
@@ -28,7 +28,7 @@ impl PlanTextFault {
         }
     }
 
-    /// The exit status of a program that it ends: 6 for a plan's text, 5 for memory, 1 for the writer.
+    /// The exit status of a program that ends with it: 6 for a plan's text, 5 for memory, 1 for the writer.
     pub fn status(self) -> u8
         ensures { result ≡ status_of self }
     {

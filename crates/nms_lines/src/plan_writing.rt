@@ -1,4 +1,4 @@
-//! A plan and its certificate as text: `specs/PlanText`.
+//! Writing a plan and its certificate as text: `specs/PlanText`.
 ghost use Rattle.std.specs.Prelude.{◌≡◌, ◌≢◌, ◌+◌, ◌<◌, ◌≤◌, ◌++◌, ◌∷◌, [], All, codes, drop, length, map, IfOk, OnOk, Err};
 ghost use Rattle.std.specs.Fmt.{decimal};
 ghost use Rattle.std.specs.Io.KnownBytes.{Appends};
@@ -20,11 +20,11 @@ use nms_quote::{
 use std::alloc::{AllocError, Global};
 use std::io::Write;
 
-/// Writes a plan and its certificate as text: a record of the plan, one for each leg, one for each cut, and an
-/// end; prices with four decimals, money with nine.
+/// Writes a plan and its certificate as text: a record of the plan, one for each leg, one for each cut, and an end. Prices have
+/// four decimals, money nine.
 ///
-/// `NoMemory` if memory ran out: nothing was written. `WriteFault` if the writer failed: a prefix of the text was
-/// written, and nothing else. The writer is not flushed.
+/// `NoMemory` if out of memory; then nothing was written. `WriteFault` if the writer failed; then only a prefix of the text was
+/// written. The writer is not flushed.
 pub fn write_plan<W: Write>(
     alloc: Global,
     plan: &Plan,
@@ -63,8 +63,7 @@ fn text_of_plan(
     Ok(text)
 }
 
-/// Appends a plan and its certificate. A symbol or a participant that is not of the roster has no name, and its field
-/// is empty.
+/// Appends a plan and its certificate. A symbol or a participant that is not on the roster has no name, and its field is empty.
 pub fn append_plan(
     out: &mut Vec<u8>,
     roster: &Roster,
@@ -98,8 +97,8 @@ fn push_plan(out: &mut Vec<u8>, roster: &Roster, plan: &Plan) -> Result<(), Allo
     out.extend_from_slice(&buf[start..])
 }
 
-/// Writes the fields of a plan for the symbol of that name, at most 158 bytes, so that they end at a place. Returns
-/// where they start.
+/// Writes the fields of a plan for the symbol with that name, at most 158 bytes, so that they end at a place. Returns the place
+/// at which they start.
 fn plan_before(buf: &mut [u8], end: usize, name: &str, plan: &Plan) -> usize
     requires room { 158 ≤ end }
     requires within { end ≤ length buf.old }
@@ -114,8 +113,8 @@ fn plan_before(buf: &mut [u8], end: usize, name: &str, plan: &Plan) -> usize
     word_before(buf, end, "PLAN")
 }
 
-/// Writes the fields of an order in the symbol of that name, which take at most 60 bytes, so that they end at a place.
-/// Returns where they start.
+/// Writes the fields of an order in the symbol with that name, which take at most 60 bytes, so that they end at a place.
+/// Returns the place at which they start.
 fn order_before(buf: &mut [u8], end: usize, name: &str, order: &Order) -> usize
     requires room { 60 ≤ end }
     requires within { end ≤ length buf.old }
@@ -131,7 +130,7 @@ fn order_before(buf: &mut [u8], end: usize, name: &str, order: &Order) -> usize
     text_before(buf, end, letter_of(order.side))
 }
 
-/// Appends the participants that an order names, in a field of their own, if there are any.
+/// Appends the participants that an order names, in one more field, if there are any.
 fn push_named(out: &mut Vec<u8>, roster: &Roster, order: &Order) -> Result<(), AllocError>
     ensures { OnOk result (out.new.items ≡ out.old.items ++ later_fields (named_fields roster.now order.now.self_help)) }
 {
@@ -178,8 +177,8 @@ fn append_leg(out: &mut Vec<u8>, roster: &Roster, leg: &Leg) -> Result<(), Alloc
     out.extend_from_slice(&buf[start..])
 }
 
-/// Writes the fields of a leg to a participant of that name, which take at most 55 bytes, so that they end at a place.
-/// Returns where they start.
+/// Writes the fields of a leg to a participant with that name, which take at most 55 bytes, so that they end at a place.
+/// Returns the place at which they start.
 fn leg_before(buf: &mut [u8], end: usize, name: &str, leg: &Leg) -> usize
     requires room { 55 ≤ end }
     requires within { end ≤ length buf.old }
@@ -213,7 +212,7 @@ fn append_cut(out: &mut Vec<u8>, cut: &Cut) -> Result<(), AllocError>
     out.extend_from_slice(&buf[start..])
 }
 
-/// Writes the fields of a cut, which take at most 90 bytes, so that they end at a place. Returns where they start.
+/// Writes the fields of a cut, which take at most 90 bytes, so that they end at a place. Returns the place at which they start.
 fn cut_before(buf: &mut [u8], end: usize, cut: &Cut) -> usize
     requires room { 90 ≤ end }
     requires within { end ≤ length buf.old }
@@ -225,7 +224,7 @@ fn cut_before(buf: &mut [u8], end: usize, cut: &Cut) -> usize
     word_before(buf, end, "CUT")
 }
 
-/// Writes what a cut says, which takes at most 61 bytes, so that it ends at a place. Returns where it starts.
+/// Writes the claim of a cut, which takes at most 61 bytes, so that it ends at a place. Returns the place at which it starts.
 fn kind_before(buf: &mut [u8], end: usize, kind: CutKind) -> usize
     requires room { 61 ≤ end }
     requires within { end ≤ length buf.old }
@@ -250,7 +249,7 @@ fn append_end(out: &mut Vec<u8>) -> Result<(), AllocError>
     out.extend_from_slice(b"END\n")
 }
 
-/// The name of a symbol, which is empty if it is not of the roster.
+/// The name of a symbol; empty if it is not on the roster.
 pub fn name_of_sym(roster: &Roster, sym: Sym) -> &str
     ensures name { result.now ≡ symbol_text roster.now sym }
     ensures short { length result.now ≤ 8 }
@@ -262,7 +261,7 @@ pub fn name_of_sym(roster: &Roster, sym: Sym) -> &str
     }
 }
 
-/// The name of a participant, which is empty if it is not of the roster.
+/// The name of a participant; empty if it is not on the roster.
 pub fn name_of_part(roster: &Roster, part: Part) -> &str
     ensures name { result.now ≡ part_text roster.now part }
     ensures short { length result.now ≤ 4 }

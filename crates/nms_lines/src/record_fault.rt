@@ -5,7 +5,7 @@ ghost use Rattle.nms_lines.specs.RecordFaults.{code_of, status_of};
 use std::fmt;
 use thiserror::Error;
 
-/// Why a file or a stream was not read. Its reader gives nothing after that.
+/// Why a file or a stream was not read. Its reader gives no records after that.
 #[derive(Clone, Copy, Debug, PartialEq, Eq, Error)]
 pub enum RecordFault {
     /// E1: the source could not be read.
@@ -25,7 +25,7 @@ impl RecordFault {
         }
     }
 
-    /// The exit status of a program that it ends: 1 for the source, 5 for memory.
+    /// The exit status of a program that ends with it: 1 for the source, 5 for memory.
     pub fn status(self) -> u8
         ensures { result ≡ status_of self }
     {

@@ -1,4 +1,4 @@
-//! The records of a text, one after another: `specs/Records`.
+//! Reading the records of a text, one after another: `specs/Records`.
 ghost use Rattle.std.specs.Prelude.{◌≡◌, ℕ, ◌++◌, ◌∷◌, [], IfOk, List, Option, Some, OnErr, true, false, Ok, Err};
 ghost use Rattle.csv.specs.Reading.{error_kind, is_io};
 ghost use Rattle.csv.specs.Records.{fields_of};
@@ -11,8 +11,8 @@ use csv::{ByteRecord, Error, Reader, ReaderBuilder};
 use std::alloc::{AllocError, Global};
 use std::io::Read;
 
-/// A reader of the records of a text: comma, double quote, no header row, records of any length, nothing
-/// trimmed, blank lines and a byte order mark at the start dropped.
+/// A reader of the records of a text. Fields are separated by a comma and may be in double quotes, there is no header row, and
+/// records may have any length. No field is trimmed; blank lines and a byte order mark at the start are dropped.
 ///
 /// It takes no memory before the first read.
 pub fn open_records<R: Read>(alloc: Global, source: R) -> Reader<R>
@@ -26,8 +26,8 @@ pub fn open_records<R: Read>(alloc: Global, source: R) -> Reader<R>
         .from_reader(alloc, source)
 }
 
-/// A row with room for a record of usual length: 64 fields, and 1,024 bytes. A row without room grows by doubling, and the reader
-/// then takes most records in two parts. Without memory for it the row has no room, and takes it as it grows.
+/// A row with room for a record of usual length: 64 fields, and 1,024 bytes. A row without room grows by doubling, and then the
+/// reader takes most records in two parts. If out of memory, the row has no room at first, and takes it as it grows.
 pub fn open_row(alloc: Global) -> ByteRecord
     ensures { fields_of result ≡ [] }
 {
@@ -37,8 +37,8 @@ pub fn open_row(alloc: Global) -> ByteRecord
     }
 }
 
-/// As `open_records`, with an empty header row set before the first read. So the reader looks for no header and keeps
-/// no copy of the first record. Then no read takes memory if the row has room for what it reads.
+/// As `open_records`, with an empty header row set before the first read. So the reader looks for no header and keeps no copy
+/// of the first record. Then no read takes memory if the row has room for the record.
 pub(crate) fn open_bare_records<R: Read + Drop>(
     alloc: Global,
     source: R,
@@ -58,8 +58,8 @@ pub(crate) fn open_bare_records<R: Read + Drop>(
 
 /// Reads the next record into `row`. Returns whether there was one.
 ///
-/// `Failed` is an error of the source. `NoMemory` means no memory for the row or the source's error. After either the
-/// reader has stopped: each later read returns that there is none.
+/// `Failed` is an error of the source. `NoMemory` means that there was no memory for the row or the source's error. After
+/// either the reader has stopped, so each later read returns that there is no record.
 pub fn read_next<R: Read>(reader: &mut Reader<R>, row: &mut ByteRecord) -> Result<bool, RecordFault>
     ensures found { (bytes : Option (List ℕ)) (seen : List Record)
         → ReadsFrom R.remaining reader.old bytes seen → result ≡ Ok true
@@ -67,12 +67,12 @@ pub fn read_next<R: Read>(reader: &mut Reader<R>, row: &mut ByteRecord) -> Resul
     ensures end { (bytes : Option (List ℕ)) (seen : List Record)
         → ReadsFrom R.remaining reader.old bytes seen → result ≡ Ok false → AreAllRecords bytes seen }
 
-    // The record is the first of those that were left. If there is none, none was left.
+    // The record is the first of those that remained. If there is no record, none remained.
     ensures more { (left : List Record) → AreLeft R.remaining reader.old left → result ≡ Ok true
         → (more : List Record) × (left ≡ fields_of row.new ∷ more) × AreLeft R.remaining reader.new more }
     ensures none { (left : List Record) → AreLeft R.remaining reader.old left → result ≡ Ok false → left ≡ [] }
 
-    // After a fault there are no more records, and what was read before is the beginning of the text.
+    // After a fault there are no further records, and what was read before is the beginning of the text.
     ensures stopped { (bytes : Option (List ℕ)) (seen : List Record)
         → ReadsFrom R.remaining reader.old bytes seen → OnErr result (HasStopped reader.new) }
     ensures over { HasStopped reader.old → result ≡ Ok false }

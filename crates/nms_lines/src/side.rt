@@ -1,4 +1,4 @@
-//! The two sides of a quotation: `specs/Sides`.
+//! Reading the two sides of a quotation: `specs/Sides`.
 ghost use Rattle.std.specs.Prelude.{◌≡◌, ◌<◌, ◌+◌};
 ghost use Rattle.std.specs.Option.{option_or};
 ghost use Rattle.nms_units.specs.Price.{price_number};
@@ -56,7 +56,7 @@ fn other_sides_in(row: &ByteRecord) -> Result<(Option<SideQuote>, Option<SideQuo
     Ok((quote_in(bid, bid_shares), quote_in(offer, offer_shares)))
 }
 
-/// The bid's field if it is wrong, which stands after n others, or else the offer's, two further.
+/// The bid's field if it is wrong, which is after n others, or else the offer's, two further.
 fn first_at(before: u8, is_bid: bool, is_offer: bool) -> Option<u8>
     requires { before < 8 }
     ensures { result ≡ option_or (wrong_at before is_bid) (wrong_at (before + 2) is_offer) }
@@ -70,7 +70,7 @@ fn first_at(before: u8, is_bid: bool, is_offer: bool) -> Option<u8>
     None
 }
 
-/// The field that is empty beside one that is not, of a side whose price stands after n fields.
+/// The field that is empty next to one that is not, for a side whose price is after n fields.
 fn half_at(before: u8, price_text: &[u8], shares_text: &[u8]) -> Option<u8>
     requires { before < 8 }
     ensures { result ≡ half_at before price_text.now shares_text.now }
@@ -85,7 +85,7 @@ fn half_at(before: u8, price_text: &[u8], shares_text: &[u8]) -> Option<u8>
     })
 }
 
-/// The quote of a price and at least one share.
+/// The quote that a price and at least one share give.
 fn quote_in(price_text: &[u8], shares_text: &[u8]) -> Option<SideQuote>
     ensures { result ≡ side_content price_text.now shares_text.now }
 {
@@ -94,14 +94,14 @@ fn quote_in(price_text: &[u8], shares_text: &[u8]) -> Option<SideQuote>
     SideQuote::new(price, shares)
 }
 
-/// Whether a price that is there is not of the form, or is zero beside shares that do not read as 0.
+/// Whether a price is there but does not have its form, or is zero next to shares that do not read as 0.
 fn is_bad_price(price_text: &[u8], shares_text: &[u8]) -> bool
     ensures { result ≡ is_bad_price price_text.now shares_text.now }
 {
     !price_text.is_empty() && is_unfit(price_text, shares_text)
 }
 
-/// Whether shares that are there are not of the form.
+/// Whether shares are there but do not have their form.
 fn is_bad_shares(text: &[u8]) -> bool
     ensures { result ≡ is_bad_shares text.now }
 {
@@ -115,7 +115,7 @@ fn is_half(price_text: &[u8], shares_text: &[u8]) -> bool
     (no_price && !no_shares) || (!no_price && no_shares)
 }
 
-/// Whether there is no price, or zero beside shares that do not read as 0.
+/// Whether there is no price, or zero next to shares that do not read as 0.
 fn is_unfit(price_text: &[u8], shares_text: &[u8]) -> bool
     ensures { result ≡ is_unfit (price_number price_text.now) (shares_number shares_text.now) }
 {

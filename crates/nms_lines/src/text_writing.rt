@@ -1,4 +1,4 @@
-//! One text, given to a writer: `specs/Written`.
+//! Giving one text to a writer: `specs/Written`.
 ghost use Rattle.std.specs.Prelude.{OnErr, OnOk};
 ghost use Rattle.std.specs.Io.{WritesAtMost};
 ghost use Rattle.std.specs.Io.KnownBytes.{Appends, WriteAppends};
@@ -6,9 +6,9 @@ ghost use Rattle.nms_lines.specs.Written.{AppendsPart};
 
 use std::io::{Error, ErrorKind, Result, Write};
 
-/// Gives a writer a text, in as many writes as it needs. An interrupted write is repeated.
+/// Gives a writer a text, in any number of writes. An interrupted write is repeated.
 ///
-/// If the writer fails, a prefix of the text was written, and nothing else. The writer is not flushed.
+/// If the writer fails, only a prefix of the text was written. The writer is not flushed.
 pub fn write_text<W: Write>(writer: &mut W, text: &[u8]) -> Result<()>
     ensures written { OnOk result (Appends (W.contents writer.old) (W.contents writer.new) text.now) }
     ensures part { OnErr result (AppendsPart (W.contents writer.old) (W.contents writer.new) text.now) }

@@ -99,7 +99,7 @@ market_of-market_at None (Some offer) = refl
 market_of-market_at (Some bid) None = refl
 market_of-market_at (Some bid) (Some offer) = refl
 
--- so it is the same for any best rows
+-- it is the same for any best rows
 pub market_of-best : (bids offers : List Row) (bid bid' offer offer' : Option Row) → IsBestOf Bid bids bid → IsBestOf Bid bids bid'
     → IsBestOf Offer offers offer → IsBestOf Offer offers offer' → market_of bid offer ≡ market_of bid' offer'
 market_of-best bids offers bid bid' offer offer' b b' o o' =

@@ -30,7 +30,7 @@ seen version bids offers = record { version = version; sym = 0; bids = bids; off
 abbrev pub larger_later : List Row
 larger_later = row n 100000 500 2 ∷ row p 100000 300 1 ∷ []
 
--- P came later with as many
+-- P came later with the same size
 abbrev pub equal_later : List Row
 equal_later = row n 100000 500 2 ∷ row p 100000 500 3 ∷ []
 
@@ -54,7 +54,7 @@ crossing_offer = manual z 99900 100 3
 abbrev pub crossed : Seen
 crossed = seen 3 (bid_of_n ∷ []) (crossing_offer ∷ [])
 
--- Y alone bids above its own offer
+-- only Y bids above its own offer
 abbrev pub own_bid : Row
 own_bid = row y 100000 100 1
 

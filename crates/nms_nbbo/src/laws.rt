@@ -1,4 +1,4 @@
-//! Laws of the ranking, the market and the pairs. Each function does nothing: its contract is the law.
+//! Laws about the ranking, the market and the pairs. Each function does nothing: its contract is the law.
 ghost use Rattle.std.specs.Prelude.{◌≡◌, ◌≢◌, ℕ, ◌<◌, true, List, [], Option};
 ghost use Rattle.nms_quote.specs.Roster.{Sizes};
 ghost use Rattle.nms_quote.specs.Tape.{Tape};
@@ -13,7 +13,7 @@ ghost use Rattle.nms_nbbo.specs.Market.{market_of};
 ghost use Rattle.nms_board.specs.Ranking.{ranks_above};
 ghost use Rattle.nms_nbbo.specs.Best.{IsBest, IsBestOf};
 
-/// No more than one row is best on a side of a symbol, whatever the tape.
+/// At most one row is best on a side of a symbol, on any tape.
 pub fn one_best_row()
     ensures { (sizes : Sizes) (tape : Tape) (sym : ℕ) (side : Side) (row other : Row)
         → IsBest side (quotations sizes tape sym side) row → IsBest side (quotations sizes tape sym side) other → row ≡ other }
@@ -25,13 +25,13 @@ pub fn some_row_is_best()
     ensures none { (side : Side) (row : Row) → ¬ IsBest side [] row }
 {}
 
-/// A higher bid and a lower offer rank first, whatever their sizes and times.
+/// A higher bid and a lower offer rank first, with any sizes and times.
 pub fn better_price_ranks_first()
     ensures bid { (row other : Row) → other.price < row.price → ranks_above Bid row other ≡ true }
     ensures offer { (row other : Row) → row.price < other.price → ranks_above Offer row other ≡ true }
 {}
 
-/// At equal prices the larger displayed size ranks first, whichever came earlier.
+/// At equal prices the larger displayed size ranks first, even if it came later.
 pub fn larger_size_ranks_first_at_equal_price()
     ensures { (side : Side) (row other : Row) → row.price ≡ other.price → other.size < row.size → ranks_above side row other ≡ true }
 {}
@@ -46,7 +46,7 @@ pub fn ranking_is_a_strict_total_order()
     ensures { (side : Side) → IsStrictTotalOrder side }
 {}
 
-/// The state of a market, found from the two best rows, holds of all bids and offers.
+/// The state of a market, found from the two best rows, is right for all bids and offers.
 pub fn market_speaks_of_all_rows()
     ensures { (bids offers : List Row) (bid offer : Option Row) → IsBestOf Bid bids bid → IsBestOf Offer offers offer → SaysOf (market_of bid offer) bids offers }
 {}

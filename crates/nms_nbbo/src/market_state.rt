@@ -18,7 +18,7 @@ pub fn market(view: &View) -> Market
     market_between(best(view, Side::Bid), best(view, Side::Offer))
 }
 
-/// The state of the market with that best bid and that best offer.
+/// The state of the market with the given best bid and best offer.
 pub fn market_between(bid: Option<Row>, offer: Option<Row>) -> Market
     ensures { result ≡ market_of bid offer }
 {

@@ -5,14 +5,14 @@ ghost use Rattle.nms_nbbo.specs.Pairs.{clause_of, pair_of, pair_between};
 use nms_board::Row;
 use nms_quote::Part;
 
-/// What the later quotation of a pair runs against (17 CFR 242.610(d) as adopted in 2005).
+/// The clause that the later quotation of a pair breaks (17 CFR 242.610(d) as adopted in 2005).
 #[derive(Clone, Copy)]
 pub enum Clause {
     /// The earlier quotation is protected.
     Protected,
-    /// It is not, and the later one is manual.
+    /// The earlier quotation is not protected, and the later one is manual.
     Manual,
-    /// It is not, and the later one is automated.
+    /// The earlier quotation is not protected, and the later one is automated.
     Neither,
 }
 
@@ -23,11 +23,11 @@ pub struct Pair {
     pub bid: Row,
     /// The other participant's offer.
     pub offer: Row,
-    /// Whether the bid is above the offer. If not, they lock.
+    /// Whether the bid is above the offer. If it is not, they lock.
     pub crossed: bool,
     /// The participant whose quotation was received later, and so locks or crosses.
     pub later: Part,
-    /// What that quotation runs against.
+    /// The clause that the later quotation breaks.
     pub clause: Clause,
 }
 
@@ -54,7 +54,7 @@ pub(crate) fn pair_between(bid: &Row, offer: &Row) -> Option<Pair>
     })
 }
 
-/// What the later of two quotations that lock or cross runs against.
+/// The clause that the later of two quotations that lock or cross breaks.
 fn clause_of(earlier: &Row, later: &Row) -> Clause
     ensures { result ≡ clause_of earlier.now later.now }
 {

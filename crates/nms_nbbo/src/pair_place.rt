@@ -23,7 +23,7 @@ impl Model for PairPlace {
 }
 
 impl PairPlace {
-    /// The place of that number, or `None` above 1,024.
+    /// The place with that number; `None` above 1,024.
     pub fn new(place: u16) -> Option<Self>
         ensures { SomeIff result (place ≤ 1024) place }
     {

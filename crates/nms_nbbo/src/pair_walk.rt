@@ -1,4 +1,4 @@
-//! The pairs of a view, one after another: `specs/Pairs` and `specs/Walk`.
+//! Finding the pairs of a view, one after another: `specs/Pairs` and `specs/Walk`.
 ghost use Rattle.std.specs.Prelude.{◌≡◌, ◌+◌, ◌<◌, [], ◌∷◌, IfSome, MatchOption};
 ghost use Rattle.nms_nbbo.specs.Pairs.{pairs_from, place_of};
 ghost use Rattle.nms_nbbo.specs.Walk.{AreByPart, IsFirstPairOf};
@@ -8,8 +8,8 @@ use crate::pair_place::PairPlace;
 use nms_board::{Row, View};
 use nms_quote::Side;
 
-/// The first pair at or after a place, and the place to go on from. From place 0 on, each pair of two participants
-/// whose quotations lock or cross comes once.
+/// The first pair at or after a place, and the place from which to go on. From place 0 on, each pair of two participants whose
+/// quotations lock or cross comes once.
 pub fn next_pair(view: &View, from: PairPlace) -> Option<(Pair, PairPlace)>
     ensures pairs { MatchOption result (pairs_from from view.now ≡ []) (λ found. pairs_from from view.now ≡ found.0 ∷ pairs_from found.1 view.now) }
     ensures place { IfSome result (λ found. found.1 ≡ place_of found.0.bid found.0.offer + 1) }

@@ -9,15 +9,15 @@ use arrayvec::ArrayVec;
 use nms_board::{Boards, MOST_ROWS, Row, View};
 use nms_quote::{Side, Sym};
 
-/// The best bid or the best offer (17 CFR 242.600, "national best bid and national best offer"), and `None` exactly if
-/// the side is empty. A manual quotation ranks as any other.
+/// The best bid or the best offer (17 CFR 242.600, "national best bid and national best offer"). It is `None` if and only if
+/// the side is empty. A manual quotation ranks like any other.
 pub fn best(view: &View, side: Side) -> Option<Row>
     ensures { IsBestOf side (rows_on side view.now) result }
 {
     view.ranked(side, 0)
 }
 
-/// The best bid or the best offer of a symbol of a board: that of its view, without making the view.
+/// The best bid or the best offer of a symbol on a board. It is that of its view, without making the view.
 #[inline(always)]
 pub fn best_on(board: &Boards, side: Side, sym: Sym) -> Option<Row>
     requires { sym < length board.now.sizes.lots }
@@ -34,7 +34,7 @@ pub fn protected(view: &View, side: Side) -> ArrayVec<Row, MOST_ROWS>
     protected_among(view.rows(side))
 }
 
-/// The protected ones of some rows, in their order.
+/// The protected rows among the given ones, in their order.
 fn protected_among(rows: &[Row]) -> ArrayVec<Row, MOST_ROWS>
     requires { length rows.now ≤ MOST_ROWS }
     ensures { result.items ≡ protected_among rows.now }

@@ -26,7 +26,7 @@ pub record HasAnswered (settings : Settings) (machine : State) (old new : Option
   pub counted : length records ≡ done
   pub refusals : count_by is_refusal told ≡ refused
 
--- those are the records that were read, and the reader stands after them
+-- those are the records that were read, and the reader is after them
 pub record HasCome {R : Type 0} (remaining : R → Option (List ℕ)) (settings : Settings) (bytes : Option (List ℕ)) (reader : Reader R)
     (machine : State) (old new : Option (List ℕ)) (done refused : ℕ) : Type 0 where
   pub so_far : HasAnswered settings machine old new done refused

@@ -1,4 +1,4 @@
-//! Scripts over the quote board: records in, answers out.
+//! Scripts over the quote board, which turn records into answers.
 #![tactic(auto)]
 
 mod counts;

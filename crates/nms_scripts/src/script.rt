@@ -1,4 +1,4 @@
-//! A script: its records are answered, one after another (specs/Script).
+//! Answering the records of a script, one after another (specs/Script).
 ghost use Rattle.std.specs.Prelude.{◌≡◌, ◌≢◌, ℕ, ◌+◌, ◌<◌, ◌≤◌, ◌++◌, ◌∷◌, List, [], Option, length, true, false, Ok, Err, IfOk, IfErr, OnOk, OnErr};
 ghost use Rattle.std.specs.Io.KnownBytes.{Appends};
 ghost use Rattle.csv.specs.Records.{fields_of};
@@ -24,13 +24,13 @@ use std::io::{Read, Write};
 /// The outcome of one more record.
 #[derive(Clone, Copy)]
 pub enum Progress {
-    /// It was answered; `refused` by an `ERR` record.
+    /// The record was answered; `refused` by an `ERR` record.
     Answered { refused: bool },
     /// There was no record.
     Ended,
 }
 
-/// What a script works with: the machine, the planner, the record at hand, and the text of its answer.
+/// The parts of a script at work: the machine, the planner, the present record, and the text of its answer.
 #[derive(Drop)]
 struct Script {
     flow: Flow,
@@ -39,13 +39,11 @@ struct Script {
     answer: Vec<u8>,
 }
 
-/// Answers the records of a script, one after another. Each answer is one write, flushed before the
-/// next record is read.
+/// Answers the records of a script, one after another. Each answer is one write, flushed before the next record is read.
 ///
-/// A refused record is answered by `ERR`, its number and the code. It changes nothing, except that `F` keeps what it
-/// took before a full tape. `ReadFault`, `TooLong` (more than 10,000,000 records) and `NoMemory` leave the answers to
-/// the records before; `WriteFault` leaves a prefix of the answers to the records that were read. No fault leaves
-/// anything else.
+/// A refused record is answered by `ERR`, its number and the code. It changes nothing, except that `F` keeps what it took
+/// before a full tape. After `ReadFault`, `TooLong` (more than 10,000,000 records) or `NoMemory` the answers to the records
+/// before were written. After `WriteFault` a prefix of the answers to the records that were read was. Nothing else is written.
 pub fn run_script<R: Read + Drop, W: Write>(
     alloc: Global,
     setup: &Setup,
@@ -63,7 +61,7 @@ pub fn run_script<R: Read + Drop, W: Write>(
     }
 }
 
-/// Answers the records that a reader gives, from the first on.
+/// Answers the records that a reader gives, from the first one.
 fn answer_records<R: Read, W: Write>(
     script: &mut Script,
     setup: &Setup,
@@ -88,7 +86,7 @@ fn answer_records<R: Read, W: Write>(
     unreachable!()
 }
 
-/// A script with nothing read.
+/// Reads and answers the record after the first `done`, if there is one.
 fn open(alloc: Global, setup: &Setup) -> Result<Script, ScriptFault>
     ensures room { IfOk result (λ script. room_of script.flow ≡ room_under setup.now) }
     ensures stands { IfOk result (λ script. IsAfter script.flow []) }
@@ -144,7 +142,7 @@ fn advance<R: Read, W: Write>(
     Ok(Progress::Answered { refused })
 }
 
-/// Writes an answer, if there is one: most records have none, and use no writer.
+/// Writes an answer, if there is one. Most records have none, and use no writer.
 fn tell_answer<W: Write>(writer: &mut W, answer: &[u8]) -> Result<(), ScriptFault>
     ensures written { OnOk result (Appends (W.contents writer.old) (W.contents writer.new) answer.now) }
     ensures part { OnErr result (AppendsPart (W.contents writer.old) (W.contents writer.new) answer.now) }

@@ -1,5 +1,4 @@
-//! One record of a script, served: the machine moves, and its answer is added to the answer's text (`Serves` of
-//! specs/Script).
+//! Serving one record of a script: the machine moves, and its answer is added to the answer's text (`Serves` of specs/Script).
 ghost use Rattle.std.specs.Prelude.{◌≡◌, ◌<◌, ◌++◌, length, true, Some, Ok, Err, IfOk, OnOk};
 ghost use Rattle.csv.specs.Records.{fields_of};
 ghost use Rattle.nms_quote.specs.Roster.{holds, sizes_of};
@@ -20,8 +19,8 @@ use nms_text::{tell_best, tell_published, tell_refusal, tell_taken, tell_through
 use nms_units::Price;
 use std::alloc::AllocError;
 
-/// Answers a record: moves the machine, and appends its answer. Returns whether it was refused. Out of memory leaves
-/// the machine as the record's steps so far left it.
+/// Answers a record: moves the machine, and appends its answer. Returns whether it was refused. If out of memory, the machine
+/// is as the record's steps so far left it.
 pub fn serve(
     flow: &mut Flow,
     setup: &Setup,
@@ -140,7 +139,7 @@ fn serve_take_all(flow: &mut Flow, number: u64, out: &mut Vec<u8>) -> Result<boo
     }
 }
 
-/// Publishes.
+/// Publishes the tape.
 fn serve_publish(flow: &mut Flow, number: u64, out: &mut Vec<u8>) -> Result<bool, AllocError>
     ensures served { IfOk result (Serves (AsksOne number step.Publish) flow.old flow.new (Some out.old.items) (Some out.new.items)) }
     ensures room { room_of flow.new ≡ room_of flow.old }
@@ -150,7 +149,7 @@ fn serve_publish(flow: &mut Flow, number: u64, out: &mut Vec<u8>) -> Result<bool
     Ok(false)
 }
 
-/// Tells a desk of the published version.
+/// Lets a desk learn of the published version.
 fn serve_tell(flow: &Flow, desk: u8, number: u64, out: &mut Vec<u8>) -> Result<bool, AllocError>
     ensures { IfOk result (Serves (AsksOne number (step.Tell desk)) flow.now flow.now (Some out.old.items) (Some out.new.items)) }
 {
@@ -184,8 +183,8 @@ fn serve_best(
     Ok(false)
 }
 
-/// Lets a desk look, and appends the protected quotations that a trade at the price trades through. If the price is
-/// between the best bid and the best offer there are none, and no view is made.
+/// Lets a desk look, and appends the protected quotations that a trade at the price trades through. If the price is between the
+/// best bid and the best offer, there are none, and no view is made.
 fn serve_through(
     flow: &Flow,
     roster: &Roster,
@@ -206,9 +205,9 @@ fn serve_through(
     Ok(false)
 }
 
-/// Appends the protected quotations that a trade at the price trades through, of what a desk sees.
+/// Appends the protected quotations that a desk sees and that a trade at the price trades through.
 ///
-/// Not inlined: a view is large, and the other records should pay nothing for it.
+/// It is not inlined, because a view is large, and the other records should pay nothing for it.
 #[inline(never)]
 fn list_through(
     flow: &Flow,
@@ -227,8 +226,8 @@ fn list_through(
     Ok(false)
 }
 
-/// Lets a desk look, plans its order on what it sees, and appends the plan with its certificate. The planner reads the
-/// rows off the board, so that no view is made, and keeps its rooms from one order to the next.
+/// Lets a desk look, plans its order on what it sees, and appends the plan with its certificate. The planner reads the rows off
+/// the board, so no view is made, and keeps its rooms from one order to the next.
 fn serve_sweep(
     flow: &Flow,
     setup: &Setup,

@@ -32,7 +32,7 @@ pub fn is_beyond(best: &BestRows, price: Price) -> bool
     bid || offer
 }
 
-/// Appends the protected quotations that a trade at a price trades through, of what a desk saw.
+/// Appends the protected quotations that a desk saw and that a trade at the price trades through.
 pub fn tell_through(
     out: &mut Vec<u8>,
     roster: &Roster,

@@ -136,7 +136,7 @@ either_bad false b = refl
 abbrev rows_sum : Choices → SetupArray → List Data → Option SetupFault
 rows_sum choices array rows = sum_of (map (element_fault choices array) rows)
 
--- one element: whether its name stood before, and its own faults
+-- one element: whether its name was there before, and its own faults
 abbrev again_at : List Data → Data → Option SetupFault
 again_at before row = bad_name_if (is_some (named_before before row))
 
@@ -196,7 +196,7 @@ of_array_key choices rows_of (Some value) = by rows_of (rows_in value)
     by array.Participant (Some rows) = of_counted choices array.Participant rows (count_fault (most_in array.Participant) (length rows))
     by array.Symbol (Some rows) = of_counted choices array.Symbol rows (count_fault (most_in array.Symbol) (length rows))
 
--- ---- the whole document
+-- ---- the complete document
 
 pull : (a k y z : Option SetupFault) → lesser k y ≡ z → lesser (lesser a k) y ≡ lesser a z
 pull a k y z e = lesser-assoc a k y ∙ ap (lesser a) e

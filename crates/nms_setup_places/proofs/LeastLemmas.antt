@@ -118,7 +118,7 @@ fold_sum x (y ∷ ys) = fold_sum (lesser x y) ys ∙ lesser-assoc x y (sum_of ys
 pub least_sum : (xs : List (Option SetupFault)) → least xs ≡ sum_of xs
 least_sum xs = fold_sum None xs
 
--- of the faults of findings
+-- the same for the faults of findings
 abbrev pub sum_found : List Finding → Option SetupFault
 sum_found [] = None
 sum_found (finding ∷ findings) = lesser (Some finding.fault) (sum_found findings)

@@ -11,7 +11,7 @@ use Rattle.nms_setup_places.specs.declared.finding.Finding.{Finding}
 use Rattle.nms_setup_places.specs.declared.reading.Examined.{Examined}
 use Rattle.nms_setup_places.specs.declared.reading.Examined.TheVariants as examined
 
--- of some mistakes, the fault of least number
+-- the fault of least number among some mistakes
 abbrev pub least_of : List Finding → Option SetupFault
 least_of found = least (map (λ finding. Some finding.fault) found)
 

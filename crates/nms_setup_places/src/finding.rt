@@ -7,13 +7,13 @@ use nms_fees::SetupFault;
 /// The part of a table that has a fault.
 #[derive(Clone, Copy)]
 pub enum Spot {
-    /// The element itself, not a table.
+    /// The element itself, which is not a table.
     Element,
-    /// A key that may be in the table: it is absent, or its value has the fault.
+    /// A key that is allowed in the table. It is absent, or its value has the fault.
     Key(KnownKey),
-    /// The keys that may not be in the table, at least one.
+    /// The keys that are not allowed in the table, at least one.
     OtherKeys,
-    /// The name, which an earlier element of the array has: the number of elements before that one.
+    /// The name, which an earlier element of the array has. The number counts the elements before that one.
     NameOf(usize),
 }
 

@@ -1,4 +1,4 @@
-//! What a value must be at each key, with its bounds: `specs/Forms`.
+//! The form and the bounds that a value must have at each key: `specs/Forms`.
 ghost use Rattle.std.specs.Prelude.{◌≡◌};
 ghost use Rattle.toml.specs.View.{view};
 ghost use Rattle.nms_fees.specs.Places.{name_fault};
@@ -17,20 +17,20 @@ use nms_quote::{
 use nms_units::MOST_LOT;
 use toml::Value;
 
-/// What a value must be, with the bounds that it must keep.
+/// The form that a value must have, with its bounds.
 #[derive(Clone, Copy)]
 pub enum Form {
     /// A whole number from the first to the second.
     Number(i64, i64),
     /// The year of caps: 2005 or 2024.
     Year,
-    /// A whole number up to the first either way, and not over the second, its cap.
+    /// A whole number that is at most the first either way, and not over the second, its cap.
     Charge(u32, u32),
     /// The letter of one of the first n feeds.
     Letter(u8),
     /// The name of an element of the array.
     Name(SetupArray),
-    /// The elements of the array: at least one, and not too many.
+    /// The elements of the array. There must be at least one, and not too many.
     Rows(SetupArray),
 }
 
@@ -54,7 +54,7 @@ pub fn form_of(choices: Choices, table: SetupTable, key: KnownKey) -> Form
     }
 }
 
-/// The array that a table with a name is of.
+/// The array to which a table with a name belongs.
 fn array_of(table: SetupTable) -> SetupArray
     ensures { result ≡ array_of table }
 {
@@ -102,7 +102,7 @@ fn is_name_of(array: SetupArray, name: &[u8]) -> bool
     }
 }
 
-/// The fault of an array by itself, whatever its elements are.
+/// The fault of an array as such, apart from its elements.
 fn rows_form_fault(value: &Value, array: SetupArray) -> Option<SetupFault>
     ensures { result ≡ rows_form_fault array (view value.now) }
 {

@@ -2,7 +2,7 @@
 ghost use Rattle.std.specs.Prelude.{◌≡◌};
 ghost use Rattle.nms_setup_places.specs.Tables.{is_optional, text_of};
 
-/// A key that may be in a table of a setup.
+/// A key that is allowed in a table of a setup.
 #[derive(Clone, Copy, PartialEq, Eq)]
 pub enum KnownKey {
     /// How many changes the tape takes.

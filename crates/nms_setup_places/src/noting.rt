@@ -1,4 +1,4 @@
-//! All faults of a document: `specs/Findings`.
+//! Finding all faults of a document: `specs/Findings`.
 ghost use Rattle.std.specs.Prelude.{◌≡◌, ◌++◌, ◌∷◌, map, IfOk, OnOk, []};
 ghost use Rattle.nms_fees.specs.Setup.{rows_at};
 ghost use Rattle.toml.specs.View.{view, table_view};
@@ -63,7 +63,7 @@ fn note_table(
     note(found, table, Spot::OtherKeys, others_fault(table, members))
 }
 
-/// Notes the faults of the keys that may be in a table.
+/// Notes the faults of the keys that are allowed in a table.
 fn note_keys(
     found: &mut Vec<Finding>,
     choices: Choices,
@@ -79,7 +79,7 @@ fn note_keys(
     Ok(())
 }
 
-/// The fault of a key that may be in a table: it is absent, or its value has a fault.
+/// The fault of a key that is allowed in a table: it is absent, or its value has a fault.
 fn key_fault(
     choices: Choices,
     table: SetupTable,
@@ -95,7 +95,7 @@ fn key_fault(
     }
 }
 
-/// The fault of the keys that may not be in a table.
+/// The fault of the keys that are not allowed in a table.
 fn others_fault(table: SetupTable, members: &Table) -> Option<SetupFault>
     ensures { result ≡ others_fault table (table_view members.now) }
 {
@@ -149,7 +149,7 @@ fn note_rows(
     Ok(())
 }
 
-/// Notes the faults of one element of an array. These elements are before it, and their names are known.
+/// Notes the faults of one element of an array. The given elements are before it, and their names are known.
 fn note_row<'a>(
     found: &mut Vec<Finding>,
     choices: Choices,
@@ -182,7 +182,7 @@ fn note_element(
     }
 }
 
-/// Notes an earlier element has the name.
+/// Notes that an earlier element has the name.
 fn note_again<'a>(
     found: &mut Vec<Finding>,
     table: SetupTable,

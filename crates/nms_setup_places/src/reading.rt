@@ -1,4 +1,4 @@
-//! A setup's text with all its faults.
+//! Examining a setup's text for all its faults.
 ghost use Rattle.std.specs.Prelude.{◌≡◌, ◌≤◌, length, Some, None, IfOk};
 ghost use Rattle.toml.specs.Parse.{parse_document};
 ghost use Rattle.nms_setup_places.specs.Examined.{IsExamined};
@@ -8,12 +8,12 @@ use crate::noting::find_faults;
 use std::alloc::{AllocError, Global};
 use toml::Table;
 
-/// Where a text is not TOML, and why.
+/// The place at which a text is not TOML, and why.
 #[derive(Clone, Copy)]
 pub struct NoToml {
     /// The number of bytes before the place at which the parser stopped.
     pub start: usize,
-    /// The number before the end of what it did not expect.
+    /// The number of bytes before the end of what it did not expect.
     pub end: usize,
     /// The parser's own error.
     pub error: toml::de::Error,
@@ -22,9 +22,9 @@ pub struct NoToml {
 /// The result of examining a text.
 #[derive(Drop)]
 pub enum Examined {
-    /// C1: not TOML.
+    /// C1: the text is not TOML.
     NoToml(NoToml),
-    /// A document with its faults, none if it is a setup.
+    /// A document with its faults; none if it is a setup.
     Document(Table, Vec<Finding>),
 }
 

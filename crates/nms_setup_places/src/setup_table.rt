@@ -19,9 +19,9 @@ pub enum SetupArray {
 pub enum SetupTable {
     /// The document itself.
     Top,
-    /// An element of the array `participant`, by the number before it.
+    /// An element of the array `participant`, by the number of elements before it.
     Participant(usize),
-    /// An element of the array `symbol`, by the number before it.
+    /// An element of the array `symbol`, by the number of elements before it.
     Symbol(usize),
 }
 
@@ -48,7 +48,7 @@ impl SetupArray {
 }
 
 impl SetupTable {
-    /// The keys that may be in the table.
+    /// The keys that are allowed in the table.
     pub fn keys(self) -> &'static [KnownKey]
         ensures { result.now ≡ keys_of self }
     {

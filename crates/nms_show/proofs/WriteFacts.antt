@@ -98,7 +98,7 @@ printable_ok (Err e) x y z first next = tt
 pub whole_text : (e x : List ℕ) → e ≡ [] → Adds IsSafe (Some e) (Some x) → IsSafe x
 whole_text e x empty all = subst IsSafe (sym (all.written ∙ ap (λ (t : List ℕ). t ++ all.text) empty)) all.kind
 
--- a piece of what is left ends within the whole
+-- a piece of what is left ends within the text
 pub piece_within : (at taken : ℕ) (bytes : List ℕ) → at ≤ length bytes → taken ≤ length (take (length bytes - at) (drop at bytes))
     → at + taken ≤ length bytes
 piece_within at taken bytes low high = omega (arith, low, high, length-take (length bytes - at) (drop at bytes), length-drop at bytes)

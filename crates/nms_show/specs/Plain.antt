@@ -28,7 +28,7 @@ IsItemOf (Some text) shown = (bytes : Bor (List ℕ)) × (shown ≡ item.Bytes b
 abbrev pub if_any : Bor (List ℕ) → Option (Bor (List ℕ))
 if_any text = if length text.now == 0 then None else Some text
 
--- words that stand before a text: absent if there is no text
+-- words that come before a text: absent if there is no text
 abbrev pub words_if : Option (Bor (List ℕ)) → Bor (List ℕ) → Item
 words_if None words = item.Absent
 words_if (Some text) words = item.Text words

@@ -7,10 +7,10 @@ use std::os::fd::{AsRawFd, IntoRawFd};
 const STANDARD: i32 = 3;
 
 /// Opens `/dev/null` for each standard stream that is closed, and leaves it open to the end of the process. A program calls it
-/// before it opens anything. A file that is opened takes the first free number: without this it would be taken for the stream,
-/// and messages or answers would be written into it.
+/// before it opens anything. A file that is opened takes the first free number. Without this call it would be taken for the
+/// stream, and messages or answers would be written into it.
 ///
-/// It is opened to read only. So a closed input is empty, and writing to a closed output still fails.
+/// It is opened only to read. So a closed input is empty, and writing to a closed output still fails.
 ///
 /// An error is that of opening `/dev/null`. What was opened before stays open.
 pub fn open_closed_streams(host: &HostRuntime) -> io::Result<()> {

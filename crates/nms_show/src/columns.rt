@@ -1,4 +1,4 @@
-//! The columns that texts take.
+//! How many columns texts take.
 use crate::item::{Item, write_plain};
 use crate::shown::write_shown;
 use std::io;
@@ -9,7 +9,7 @@ use std::io::Write;
 struct Columns(usize);
 
 impl Write for Columns {
-    /// A byte that continues a character is not counted.
+    /// Bytes that continue a character are not counted.
     fn write(&mut self, text: &[u8]) -> io::Result<usize> {
         match self.0.checked_add(characters_in(text)) {
             Some(count) => {
@@ -28,7 +28,7 @@ impl Write for Columns {
 /// The number of characters of an item.
 pub(crate) fn columns_of_item(item: &Item<'_>) -> usize {
     let mut count = Columns(0);
-    // Only a text too long for any memory has more characters than a count.
+    // The result is dropped, because only a text too long for any memory has more characters than a count.
     let _ = write_plain(&mut count, item);
     count.0
 }
@@ -40,7 +40,7 @@ pub(crate) fn columns_of_bytes(bytes: &[u8]) -> usize {
     count.0
 }
 
-/// The number of characters that begin in a text.
+/// How many characters begin in a text.
 fn characters_in(text: &[u8]) -> usize {
     let mut count = 0;
     for byte in text {

@@ -2,7 +2,7 @@
 ghost use Rattle.std.specs.Prelude.{◌≡◌};
 ghost use Rattle.nms_show.specs.Endings.{status_of};
 
-/// The end of a served request: all that was asked for was printed.
+/// The end of a served request. All that was asked for was printed.
 #[derive(Clone, Copy)]
 pub enum Ending {
     /// Nothing was refused or doubted.
@@ -16,7 +16,7 @@ pub enum Ending {
 }
 
 impl Ending {
-    /// The exit status: 0, 4 for a doubt, 6 for a record or a plan's text, 3 for a setup.
+    /// The exit status: 0 if done, 4 for a doubt, 6 for a record or a plan's text, 3 for a setup.
     pub fn status(self) -> u8
         ensures { result ≡ status_of self }
     {

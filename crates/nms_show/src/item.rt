@@ -1,4 +1,4 @@
-//! What a line is made of.
+//! The parts of a line.
 ghost use Rattle.std.specs.Prelude.{◌≡◌};
 ghost use Rattle.nms_show.specs.Safe.{IsPrintable, own_text};
 ghost use Rattle.nms_show.specs.Written.{Writes};
@@ -11,18 +11,18 @@ use nms_lines::write_text;
 use nms_units::{Money, Price};
 use std::io::Write;
 
-/// One thing that a line says, or the value of a JSON object's key.
+/// One thing in a line, or the value of a JSON object's key.
 #[derive(Clone, Copy)]
 pub enum Item<'a> {
-    /// Words of the program's own, as they are.
+    /// A text of the program, as it is.
     Text(&'a str),
     /// As `Text`, bold if there are colours.
     Strong(&'a str),
     /// As `Text`, red if there are colours.
     Alarm(&'a str),
-    /// Bytes of a file, or a word of the call. Escapes replace what can't be shown.
+    /// Bytes of a file, or an argument of the call. Escapes replace what can't be shown.
     Bytes(&'a [u8]),
-    /// A number: of shares, of a version, of a line.
+    /// A number, as of shares, of a version, or of a line.
     Number(u64),
     /// A price in 1/10,000 dollar, with four decimals; in JSON it is a text. `of_price` makes it.
     Price(u64),
@@ -30,7 +30,7 @@ pub enum Item<'a> {
     Money(i128),
     /// `yes` or `no`; in JSON `true` or `false`.
     Flag(bool),
-    /// Nothing; in JSON `null`.
+    /// An absent value; in JSON `null`.
     Absent,
 }
 
@@ -41,19 +41,19 @@ pub struct Column<'a> {
     pub item: Item<'a>,
     /// The least number of characters.
     pub width: usize,
-    /// Whether it is at the column's right end.
+    /// Whether the item is at the column's right end.
     pub right: bool,
 }
 
 impl Item<'_> {
-    /// A price. It is kept as a number, so that an item is copied as numbers are.
+    /// The item of a price. It is kept as a number, so that an item is copied as numbers are.
     pub fn of_price(price: Price) -> Self
         ensures { result ≡ item.Price price }
     {
         Item::Price(price.get())
     }
 
-    /// Money, also as a number.
+    /// The item of an amount of money, which is also kept as a number.
     pub fn of_money(money: Money) -> Self
         ensures { result ≡ item.Money money }
     {
@@ -77,7 +77,7 @@ pub(crate) fn write_plain<W: Write>(answers: &mut W, item: &Item<'_>) -> Result<
     }
 }
 
-/// Writes a text of the program's own, as it is.
+/// Writes a text of the program, as it is.
 pub(crate) fn write_own<W: Write>(answers: &mut W, text: &str) -> Result<(), ShowFault>
     ensures { IsPrintable text.now → Writes IsPrintable (W.contents answers.old) (W.contents answers.new) result }
 {
@@ -87,7 +87,7 @@ pub(crate) fn write_own<W: Write>(answers: &mut W, text: &str) -> Result<(), Sho
     }
 }
 
-/// Writes a price in 1/10,000 dollar; nothing if the number is not a price.
+/// Writes a price in 1/10,000 dollar. It writes nothing if the number is not a price.
 fn write_price<W: Write>(answers: &mut W, number: u64) -> Result<(), ShowFault>
     ensures { Writes IsPrintable (W.contents answers.old) (W.contents answers.new) result }
 {

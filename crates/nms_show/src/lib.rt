@@ -1,5 +1,4 @@
-//! What is printed for people, and for their programs: lines, tables and JSON, in which no harmful byte of a file
-//! reaches a terminal.
+//! Printing for people and for their programs: lines, tables and JSON, in which no harmful byte of a file reaches a terminal.
 #![tactic(auto)]
 
 mod closed_streams;

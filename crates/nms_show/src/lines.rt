@@ -1,4 +1,4 @@
-//! Lines and tables.
+//! Writing lines and tables.
 ghost use Rattle.std.specs.Prelude.{All, IfSome};
 ghost use Rattle.nms_show.specs.Safe.{IsPrintable, IsSafe, own_text};
 ghost use Rattle.nms_show.specs.Written.{Writes};
@@ -12,8 +12,8 @@ use std::io::Write;
 
 /// Writes items and the end of a line. It is not flushed.
 ///
-/// If the items' own texts are printable, what is added to the writer is safe to show; at a failure it is a prefix of
-/// such a text.
+/// If the program's texts in the items are printable, what is added to the writer is safe to show. At a failure it is a prefix
+/// of such a text.
 pub fn write_line<W: Write>(
     answers: &mut W,
     form: Form,
@@ -41,7 +41,7 @@ pub(crate) fn write_items<W: Write>(
 
 /// Writes a table's row. A space is between two columns, and the end of a line after the last. It is not flushed.
 ///
-/// What is added is safe to show, as of `write_line`.
+/// What is added is safe to show, as for `write_line`.
 pub fn write_row<W: Write>(
     answers: &mut W,
     form: Form,
@@ -69,7 +69,7 @@ fn write_columns<W: Write>(
     Ok(())
 }
 
-/// Writes the spaces that are owed and a column, and returns the spaces that are owed after it.
+/// Writes the spaces that are due and a column, and returns the spaces that are due after it.
 fn write_column<W: Write>(
     answers: &mut W,
     form: Form,
@@ -85,7 +85,7 @@ fn write_column<W: Write>(
     Ok(after)
 }
 
-/// The columns that are left before an item and after it.
+/// The free columns before an item and after it.
 fn spare_of(column: &Column<'_>) -> (usize, usize) {
     let taken = columns_of_item(&column.item);
     if taken >= column.width {

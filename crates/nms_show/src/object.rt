@@ -1,4 +1,4 @@
-//! One JSON object a line (`specs/Json`).
+//! Writing one JSON object a line (`specs/Json`).
 ghost use Rattle.std.specs.Prelude.{◌≡◌, ◌++◌, All, IfOk, OnOk, Some};
 ghost use Rattle.nms_show.specs.Json as json;
 ghost use Rattle.nms_show.specs.Safe.{IsPrintable, IsSafe, own_text};
@@ -14,7 +14,8 @@ use std::io::Write;
 
 /// Writes a JSON object. Its keys are in this order, and the end of a line follows. It is not flushed.
 ///
-/// If the keys and the items' own texts are printable, what is added is safe to show. `NoMemory`: nothing was written.
+/// If the keys and the program's texts in the items are printable, what is added is safe to show. After `NoMemory` nothing was
+/// written.
 pub fn write_object<W: Write>(
     alloc: Global,
     answers: &mut W,
@@ -38,7 +39,7 @@ fn write_whole<W: Write>(answers: &mut W, text: &[u8]) -> Result<(), ShowFault>
     }
 }
 
-/// An object and the end of its line.
+/// The text of an object and the end of its line.
 fn text_of_object(alloc: Global, members: &[(&str, Item<'_>)]) -> Result<Vec<u8>, ShowFault>
     ensures { All (λ member. IsPrintable member.0.now × IsPrintable (own_text member.1)) members.now → IfOk result (λ text. IsSafe text.items) }
 {

@@ -14,7 +14,7 @@ use crate::under::write_under;
 use std::alloc::Global;
 use std::io::Write;
 
-/// What stands before each line of a report but the first.
+/// The indent of each line of a report after the first.
 const INDENT: &str = "    ";
 
 /// A place in a file.
@@ -22,9 +22,9 @@ const INDENT: &str = "    ";
 pub struct Location<'a> {
     /// The file, as the call named it.
     pub file: &'a str,
-    /// The line, from 1.
+    /// The line, counted from 1.
     pub line: u64,
-    /// The column, from 1.
+    /// The column, counted from 1.
     pub column: u64,
 }
 
@@ -33,13 +33,13 @@ pub struct Location<'a> {
 pub struct WrongPart<'a> {
     /// The record or the line.
     pub text: &'a [u8],
-    /// The first byte of the part that is wrong, and the first after it.
+    /// The first byte of the part that is wrong, and the first byte after it.
     pub start: usize,
     pub end: usize,
 }
 
-/// Writes a line, as `write_line` does, of items whose own texts are printable ASCII. What is added is safe to show. A fault is
-/// one of `write_line`.
+/// Writes a line as `write_line` does. The program's texts in its items are printable ASCII. What is added is safe to show. A
+/// fault is one of `write_line`.
 #[tactic(auto, using(crate::proofs::PlainFacts::plain_items))]
 pub fn write_plain_line<W: Write>(
     answers: &mut W,
@@ -52,7 +52,7 @@ pub fn write_plain_line<W: Write>(
     write_line(answers, form, items)
 }
 
-/// Writes a table's row, as `write_row` does, of items whose own texts are printable ASCII. What is added is safe to show.
+/// Writes a table's row as `write_row` does. The program's texts in its items are printable ASCII. What is added is safe to show.
 #[tactic(auto, using(crate::proofs::PlainFacts::plain_columns))]
 pub(crate) fn write_plain_row<W: Write>(
     answers: &mut W,
@@ -65,8 +65,8 @@ pub(crate) fn write_plain_row<W: Write>(
     write_row(answers, form, columns)
 }
 
-/// Writes a JSON object, as `write_object` does, whose keys and own texts are printable ASCII. What is added is safe to show. A
-/// fault is one of `write_object`.
+/// Writes a JSON object as `write_object` does. Its keys and the program's texts are printable ASCII. What is added is safe to
+/// show. A fault is one of `write_object`.
 pub fn write_plain_object<W: Write>(
     alloc: Global,
     answers: &mut W,
@@ -80,7 +80,7 @@ pub fn write_plain_object<W: Write>(
 
 /// Writes the line of a refusal's place: file, line, column and code, and then the items. It is not flushed.
 ///
-/// What is added is safe to show. `WriteFault` leaves a prefix of the line.
+/// What is added is safe to show. After `WriteFault` a prefix of the line was written.
 pub(crate) fn write_place<W: Write>(
     answers: &mut W,
     form: Form,
@@ -96,10 +96,10 @@ pub(crate) fn write_place<W: Write>(
     write_plain_line(answers, form, items)
 }
 
-/// Writes the line of a refusal's place, as `write_place` does, and its text with carets under the part that is wrong. It is not
-/// flushed.
+/// Writes the line of a refusal's place, as `write_place` does, and its text with carets under the part that is wrong. It is
+/// not flushed.
 ///
-/// What is added is safe to show. `WriteFault` leaves a prefix of the lines.
+/// What is added is safe to show. After `WriteFault` a prefix of the lines was written.
 pub fn write_refused<W: Write>(
     answers: &mut W,
     form: Form,
@@ -138,7 +138,7 @@ fn write_location<W: Write>(
     write_plain_items(answers, form, &items)
 }
 
-/// Writes items, as `write_items` does, whose own texts are printable ASCII.
+/// Writes items, as `write_items` does. The program's texts in them are printable ASCII.
 #[tactic(auto, using(crate::proofs::PlainFacts::plain_items))]
 fn write_plain_items<W: Write>(
     answers: &mut W,
@@ -153,7 +153,7 @@ fn write_plain_items<W: Write>(
 
 /// Writes what was found, between the two words that belong to it, and then what is expected. It is not flushed.
 ///
-/// What is added is safe to show. `WriteFault` leaves a prefix of the line.
+/// What is added is safe to show. After `WriteFault` a prefix of the line was written.
 pub fn write_found<'x, W: Write>(
     answers: &mut W,
     form: Form,
@@ -176,7 +176,7 @@ pub fn write_found<'x, W: Write>(
     write_plain_line(answers, form, &items)
 }
 
-/// The words round what stands at a key, which `write_found` takes: it may be absent.
+/// The words before and after what is at a key, which `write_found` takes. The value may be absent.
 pub fn words_round(found: Item<'_>) -> (&'static str, &'static str)
     ensures before { is_plain result.0.now ≡ true }
     ensures after { is_plain result.1.now ≡ true }
@@ -190,7 +190,7 @@ pub fn words_round(found: Item<'_>) -> (&'static str, &'static str)
 
 /// Writes a line of advice; nothing if there is none. It is not flushed.
 ///
-/// What is added is safe to show, whatever the advice quotes of a file. `WriteFault` leaves a prefix of the line.
+/// What is added is safe to show, even if the advice quotes a file. After `WriteFault` a prefix of the line was written.
 #[tactic(auto, using(crate::proofs::PlainFacts::nothing_added))]
 pub fn write_advice<W: Write>(answers: &mut W, form: Form, advice: &str) -> Result<(), ShowFault>
     ensures safe { Writes IsSafe (W.contents answers.old) (W.contents answers.new) result }
@@ -202,7 +202,7 @@ pub fn write_advice<W: Write>(answers: &mut W, form: Form, advice: &str) -> Resu
     write_plain_line(answers, form, &items)
 }
 
-/// A text of a file or of the call, absent if there is none.
+/// A text of a file or of the call; absent if there is none.
 pub fn item_of(text: Option<&str>) -> Item<'_>
     ensures item { IsItemOf text.entry result }
     ensures plain { is_own_plain result ≡ true }
@@ -213,7 +213,7 @@ pub fn item_of(text: Option<&str>) -> Item<'_>
     }
 }
 
-/// A text of a file or of the call, absent if it is empty.
+/// A text of a file or of the call; absent if it is empty.
 pub fn item_if_any(text: &str) -> Item<'_>
     ensures item { IsItemOf (if_any text.entry) result }
     ensures plain { is_own_plain result ≡ true }
@@ -225,7 +225,7 @@ pub fn item_if_any(text: &str) -> Item<'_>
     }
 }
 
-/// Words that stand before a text, absent if there is no text.
+/// Words before a text; absent if there is no text.
 pub fn words_before(text: Option<&str>, words: &'static str) -> Item<'static>
     ensures item { result ≡ words_if text.entry words.entry }
     ensures plain { is_plain words.now ≡ true → is_own_plain result ≡ true }

@@ -1,4 +1,4 @@
-//! Text that is safe to show, kept until it is printed: `specs/Written`.
+//! A text that is safe to show, kept until it is printed: `specs/Written`.
 ghost use Rattle.std.specs.Prelude.{◌≡◌, ℕ, [], List, MatchResult, Some, length, true};
 ghost use Rattle.std.specs.List.{list_all};
 ghost use Rattle.std.specs.Io.KnownBytes.{Appends};
@@ -19,9 +19,10 @@ use std::alloc::{AllocError, Global};
 use std::io::Write;
 use std::marker::Model;
 
-/// Text that is safe to show on a terminal: nothing else can be added to it. So what a function prints on it needs no clause.
+/// A text that is safe to show on a terminal. Nothing else can be added to it, so what a function prints on it needs no clause.
 ///
-/// Nothing of it appears until `pass_on`. What is added is added whole: out of memory, the one fault, leaves the text as it was.
+/// It is not printed before `pass_on`. Each addition is complete or absent: the only fault is out of memory, and it leaves the
+/// text as it was.
 #[derive(Drop)]
 pub struct SafeText {
     alloc: Global,
@@ -41,7 +42,7 @@ impl Model for SafeText {
 }
 
 impl SafeText {
-    /// No text yet.
+    /// An empty text.
     #[tactic(auto, using(crate::proofs::PlainFacts::safe_none))]
     pub fn new(alloc: Global, form: Form) -> Self
         ensures { result ≡ [] }
@@ -53,12 +54,12 @@ impl SafeText {
         }
     }
 
-    /// The allocator.
+    /// The allocator of the text.
     pub fn alloc(&self) -> Global {
         self.alloc
     }
 
-    /// Whether it is JSON.
+    /// Whether the text is JSON.
     pub fn is_json(&self) -> bool {
         self.form.is_json()
     }
@@ -152,9 +153,9 @@ impl SafeText {
         kept(&mut self.text, had, written)
     }
 
-    /// Gives the text to a writer, and begins again with none. It is not flushed.
+    /// Gives the text to a writer, and begins again with an empty one. It is not flushed.
     ///
-    /// `WriteFault`, the one fault, leaves a prefix of the text written.
+    /// The only fault is `WriteFault`, after which a prefix of the text was written.
     #[tactic(auto, using(crate::proofs::PlainFacts::safe_none))]
     pub fn pass_on<W: Write>(&mut self, answers: &mut W) -> Result<(), ShowFault>
         ensures empty { self.new ≡ [] }
@@ -171,7 +172,7 @@ impl SafeText {
     }
 }
 
-/// Takes back what a call added that failed. In memory a write only fails if memory runs out.
+/// Takes back what a failed call added. A write to memory fails only if out of memory.
 #[tactic(auto, using(crate::proofs::PlainFacts::safe_more, crate::proofs::PlainFacts::cut_back))]
 fn kept(text: &mut Vec<u8>, had: usize, written: Result<(), ShowFault>) -> Result<(), AllocError>
     ensures kept { (was : List ℕ) → had ≡ length was → Writes IsSafe (Some was) (Some text.old.items) written

@@ -8,7 +8,7 @@ use thiserror::Error;
 pub enum ShowFault {
     /// E2: the writer failed. A prefix of the answer was written.
     WriteFault,
-    /// E4: out of memory. Nothing of the line was written.
+    /// E4: out of memory. No part of the line was written.
     NoMemory,
 }
 

@@ -1,5 +1,5 @@
-//! Bytes of a file as they are shown: an escape replaces each that could move a cursor, turn the direction of text, or
-//! is not UTF-8 (`specs/Safe`).
+//! Writing bytes of a file so that they are safe to show. An escape replaces each byte that could move a cursor, turn the
+//! direction of text, or is not UTF-8 (`specs/Safe`).
 ghost use Rattle.std.specs.Prelude.{◌≡◌, ◌<◌, ◌≤◌, length, take, IfOk, IfSome, IsTrue, true};
 ghost use Rattle.std.specs.Char.{digit_char};
 ghost use Rattle.nms_show.specs.Safe as safe;
@@ -14,11 +14,12 @@ use std::str;
 /// The most bytes of a text that are shown.
 const MOST_SHOWN: usize = 400;
 
-/// Writes bytes as they are shown: printable ASCII and the letters of European alphabets as they are. Any other
-/// character is shown as `\n`, `\r`, `\t`, `\x1b` or `\u{202e}`, a byte that is not UTF-8 as `\xff`, a backslash as
-/// two. After 400 bytes the number of further bytes follows. It is not flushed.
+/// Writes bytes as they are shown: printable ASCII and the letters of European alphabets as they are. Any other character is
+/// shown as `
+/// `, `\r`, `\t`, `\x1b` or `\u{202e}`, a byte that is not UTF-8 as `\xff`, a backslash as two. After 400 bytes the number of
+/// further bytes follows. It is not flushed.
 ///
-/// What is added is safe to show. `WriteFault` leaves a prefix of it.
+/// What is added is safe to show. After `WriteFault` a prefix of it was written.
 pub fn write_shown<W: Write>(answers: &mut W, bytes: &[u8]) -> Result<(), ShowFault>
     ensures { Writes IsPrintable (W.contents answers.old) (W.contents answers.new) result }
 {
@@ -38,7 +39,7 @@ fn write_left_out<W: Write>(answers: &mut W, more: usize) -> Result<(), ShowFaul
     write_printable(answers, b" bytes more)")
 }
 
-/// Writes bytes as they are shown, however many there are.
+/// Writes all bytes as they are shown.
 fn write_pieces<W: Write>(answers: &mut W, bytes: &[u8]) -> Result<(), ShowFault>
     ensures { Writes IsPrintable (W.contents answers.old) (W.contents answers.new) result }
 {
@@ -49,8 +50,8 @@ fn write_pieces<W: Write>(answers: &mut W, bytes: &[u8]) -> Result<(), ShowFault
     Ok(())
 }
 
-/// Writes the printable ASCII at the start of bytes, or the escape of the one character or byte there. Returns how many
-/// of the bytes that is.
+/// Writes the printable ASCII at the start of bytes, or the escape of the one character or byte there. Returns how many bytes
+/// it took.
 fn write_piece<W: Write>(answers: &mut W, bytes: &[u8]) -> Result<usize, ShowFault>
     requires { 0 < length bytes.now }
     ensures shown { Writes IsPrintable (W.contents answers.old) (W.contents answers.new) result }
@@ -84,7 +85,7 @@ fn is_plain(byte: u8) -> bool
     byte >= b' ' && byte <= b'~' && byte != b'\\'
 }
 
-/// Writes the form of the character or the byte at the start of bytes. Returns how many of the bytes that is.
+/// Writes the form of the character or the byte at the start of bytes. Returns how many bytes it took.
 fn write_escape<W: Write>(answers: &mut W, bytes: &[u8]) -> Result<usize, ShowFault>
     requires { 0 < length bytes.now }
     ensures shown { Writes IsPrintable (W.contents answers.old) (W.contents answers.new) result }
@@ -103,7 +104,7 @@ fn write_escape<W: Write>(answers: &mut W, bytes: &[u8]) -> Result<usize, ShowFa
     }
 }
 
-/// The character that bytes begin with, if they are UTF-8, and its number of bytes.
+/// The character at the start of bytes, if they are UTF-8, and its number of bytes.
 fn char_at(bytes: &[u8]) -> Option<(char, usize)>
     ensures some { IfSome result (λ found. 0 < found.1) }
     ensures within { IfSome result (λ found. found.1 ≤ length bytes.now) }
@@ -143,14 +144,15 @@ fn write_letter<W: Write>(answers: &mut W, letter: char) -> Result<(), ShowFault
     write_printable(answers, text.as_bytes())
 }
 
-/// Whether a character takes one column, written from left to right, and joins no other: Latin, Greek, Cyrillic.
+/// Whether a character takes one column, is written from left to right, and joins no other. The letters are Latin, Greek and
+/// Cyrillic.
 fn is_letter(letter: char) -> bool
     ensures { result ≡ safe.is_letter letter }
 {
     matches!(letter, '\u{a1}'..='\u{ac}' | '\u{ae}'..='\u{2ff}' | '\u{391}'..='\u{3ce}' | '\u{400}'..='\u{481}')
 }
 
-/// Writes the code of a character: as that of a byte if it is ASCII.
+/// Writes the code of a character, as that of a byte if it is ASCII.
 fn write_code<W: Write>(answers: &mut W, code: u32) -> Result<(), ShowFault>
     ensures { Writes IsPrintable (W.contents answers.old) (W.contents answers.new) result }
 {

@@ -11,7 +11,7 @@ use crate::shown::write_shown;
 use crate::written::{end_line, write_printable};
 use std::io::Write;
 
-/// The number of bytes shown before a field, and from its start on.
+/// The number of bytes that are shown before a field, and from its start on.
 const BEFORE: usize = 48;
 
 const FROM: usize = 72;
@@ -20,8 +20,8 @@ const INDENT: &[u8] = b"    ";
 /// The mark of bytes that are left out.
 const LEFT_OUT: &str = "..";
 
-/// Writes a record with carets under it. They are under its bytes from `start` to `end`, and one caret if there are
-/// none. Of a long record only the part round the field is shown. It is not flushed.
+/// Writes a record with carets under it. They are under its bytes from `start` to `end`, and there is one caret if these are
+/// none. Only the part around the field is shown of a long record. It is not flushed.
 pub fn write_under<W: Write>(
     answers: &mut W,
     form: Form,
@@ -57,7 +57,7 @@ fn last_of(before: &[u8]) -> &[u8] {
     &before[before.len() - BEFORE..]
 }
 
-/// That many bytes at the start, or all if there are fewer.
+/// The first n bytes, or all if there are fewer.
 fn first_of(bytes: &[u8], most: usize) -> &[u8] {
     if bytes.len() <= most {
         return bytes;
@@ -96,7 +96,7 @@ fn write_body<W: Write>(
     write_parts(answers, ahead, near, shown, after)
 }
 
-/// Writes the part before the field, and the part from it on.
+/// Writes the part before the field, and the part from the field on.
 fn write_parts<W: Write>(
     answers: &mut W,
     ahead: &str,

@@ -133,7 +133,7 @@ one_told board roster before now symbol stands same =
     ap (λ (n : ℕ). line_of roster n symbol was (quoted_in (seen_on board symbol))) stands.applied
     ∙ ap (λ (q : Quoted). line_of roster (length now) symbol was q) (quoted_stands board now (sizes_of roster) symbol stands same)
 
--- if one symbol alone may have a line, it is the only one
+-- if only one symbol may have a line, it is the only one
 pub lone_line : (roster : Listing) (before now : Tape) (own : ℕ) → own < length roster.syms
     → ((sym : ℕ) → sym ≢ own → quoted_at (sizes_of roster) before sym ≡ quoted_at (sizes_of roster) now sym)
     → line_between roster before now own ≡ lines_between roster None before now

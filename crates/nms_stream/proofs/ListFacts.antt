@@ -35,7 +35,7 @@ quiet_range f low zero none = refl
 quiet_range f low (suc n) none =
     rw (none low (omega arith)) (quiet_range f (low + 1) n (λ k from. none k (omega arith)))
 
--- if one place alone gives something, it gives all
+-- if only one place gives something, it gives all
 pub lone_range : {X : Type 0} (f : ℕ → List X) (own low n : ℕ) → low ≤ own → own < low + n → ((k : ℕ) → k ≢ own → f k ≡ [])
     → flat_map f (range_with_len low n) ≡ f own
 lone_range f own low zero from below none = absurd (omega arith)

@@ -128,7 +128,7 @@ front roster asked tape count (suc more) =
           ∙ append_assoc (told_to roster asked tape count) rest last,
     )
 
--- a prefix of it is one of the whole stream
+-- a prefix of it is one of the complete stream
 pub part_of_stream : (old new : Option (List ℕ)) (roster : Listing) (asked : Option ℕ) (tape : Tape) (count : ℕ) → count ≤ length tape
     → AppendsPart old new (told_to roster asked tape count) → AppendsPart old new (stream_text roster asked tape)
 unfolding stream_text

@@ -84,7 +84,7 @@ alike_price (Some row) (Some other) alike =
     let same : row.price ≡ other.price = grind (arith, nat_tests) in
     ap Some same
 
--- a market looks at prices alone
+-- a market depends only on prices
 market_at : Option ℕ → Option ℕ → Market
 market_at None None = market.Empty
 market_at None (Some offer) = market.OneSided

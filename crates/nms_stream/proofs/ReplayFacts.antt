@@ -21,7 +21,7 @@ opened : (lot : Option ℕ) (place : ℕ) → lot ≡ option_map (lot_since plac
 opened None place = refl
 opened (Some lot) place = refl
 
--- a board with nothing on it stands for no change
+-- a board with nothing on it shows no change
 pub opening_stands : (sizes : Sizes) → sizes.parts ≤ MOST_ROWS → StandsFor (opening sizes) []
 unfolding before_equal_end
 opening_stands sizes narrow = record {

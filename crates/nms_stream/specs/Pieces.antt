@@ -2,7 +2,7 @@
 use Rattle.std.specs.Prelude.{ℕ, ◌≡◌, ◌++◌, List, Option}
 use Rattle.std.specs.Io.KnownBytes.{Appends}
 
--- of what waited before and what came to it, a prefix was sent, and the rest waits now
+-- a prefix of what waited before and what was added was sent, and the rest waits now
 pub record Sends (old new : Option (List ℕ)) (waited came waits : List ℕ) : Type 0 where
   pub sent : List ℕ
   pub written : Appends old new sent

@@ -17,7 +17,7 @@ quoted_in seen = record { bid = ranked_at Bid seen.bids 0; offer = ranked_at Off
 unfoldable pub quoted_at : Sizes → Tape → ℕ → Quoted
 quoted_at sizes tape sym = quoted_in (view_of sizes tape sym)
 
--- whether two best rows look alike: of one participant, at one price, with one displayed size; or there are none
+-- whether two best rows look alike: they are of one participant, at one price, with one displayed size; or there are none
 abbrev pub is_alike : Option Row → Option Row → Bool
 is_alike None None = true
 is_alike None (Some row) = false

@@ -5,7 +5,7 @@ use Rattle.nms_quote.specs.Tape.{Tape, version}
 use Rattle.nms_quote.specs.declared.change.Change.{Change}
 use Rattle.nms_board.specs.Cells.{Board, StandsFor, after}
 
--- a board of a roster's sizes that stands for the first changes of a tape
+-- a board of a roster's sizes that shows the first changes of a tape
 pub record IsAt (sizes : Sizes) (tape : Tape) (board : Board) : Type 0 where
   pub same : board.sizes ≡ sizes
   pub within : board.applied ≤ length tape

@@ -1,4 +1,4 @@
-//! A board that goes along a tape, with what was last shown of each symbol: `specs/Following`.
+//! A board that moves along a tape, with what was last shown for each symbol: `specs/Following`.
 ghost use Rattle.std.specs.Prelude.{◌≡◌, ◌<◌, ◌++◌, ◌∷◌, [], length, true, None, Some, IfOk, IfSome, OnOk, slice_get, slice_set};
 ghost use Rattle.nms_quote.specs.Roster.{sizes_of};
 ghost use Rattle.nms_quote.specs.Tape.{Tape};
@@ -16,7 +16,7 @@ use nms_board::{BoardFault, Boards, Row, other_symbols_stay};
 use nms_quote::{Change, Roster, Sym};
 use std::alloc::{AllocError, Global};
 
-/// A board that goes along a tape, and what was last shown of each symbol, by place.
+/// A board that moves along a tape, and what was last shown for each symbol, by place.
 #[derive(Drop)]
 pub(crate) struct Follower {
     pub(crate) board: Boards,
@@ -35,14 +35,14 @@ pub(crate) fn open(alloc: Global, roster: &Roster) -> Result<Follower, BoardFaul
     }
 }
 
-/// What a board shows of each symbol, by place.
+/// What a board shows for each symbol, by place.
 fn shown_on(alloc: Global, roster: &Roster, board: &Boards) -> Result<Vec<Quoted>, AllocError>
     requires { board.now.sizes ≡ sizes_of roster.now }
     ensures places { IfOk result (λ shown. length shown.items ≡ length roster.now.syms) }
     ensures shown { (tape : Tape) → StandsFor board.now tape
         → IfOk result (λ shown. Shows (sizes_of roster.now) None shown.items tape) }
 {
-    // Moving rows takes a mention of their type: the prover has to have seen it.
+    // The prover has to see the type of a row before rows move, so the code mentions it.
     let _seen: Option<Row> = None;
     let mut shown = Vec::with_capacity(alloc, roster.syms())?;
     for place in 0..roster.syms() as u16 {
@@ -51,8 +51,8 @@ fn shown_on(alloc: Global, roster: &Roster, board: &Boards) -> Result<Vec<Quoted
     Ok(shown)
 }
 
-/// Goes on by one change, and appends the lines of the symbols that are asked for. Symbols that the change does not
-/// concern are not looked at.
+/// Moves on by one change, and appends the lines of the symbols that are asked for. Symbols that the change does not concern
+/// are not looked at.
 pub(crate) fn follow(
     follower: &mut Follower,
     roster: &Roster,
@@ -125,7 +125,7 @@ fn follow_all(
     }
 }
 
-/// The only symbol that a change speaks of; a withdrawal speaks of all.
+/// The only symbol that a change is about; none for a withdrawal, which is about all.
 fn symbol_of(change: &Change) -> Option<Sym>
     ensures { result ≡ symbol_of change.now }
 {
@@ -137,8 +137,7 @@ fn symbol_of(change: &Change) -> Option<Sym>
     }
 }
 
-/// Appends the line of a symbol if its board does not look like what was last shown, and keeps the board's rows as
-/// shown.
+/// Appends the line of a symbol if its board does not look like what was last shown. Then the board's rows are kept as shown.
 fn show(
     follower: &mut Follower,
     roster: &Roster,

@@ -1,4 +1,4 @@
-//! Laws above the definitions of the stream. Each function does nothing: its contract is the law.
+//! Laws about the definitions of the stream. Each function does nothing: its contract is the law.
 ghost use Rattle.std.specs.Prelude.{◌≡◌, ℕ, [], None};
 ghost use Rattle.nms_quote.specs.Roster.{Listing, Sizes};
 ghost use Rattle.nms_quote.specs.Tape.{Tape};

@@ -1,4 +1,4 @@
-//! The stream of a tape: a line exactly when a symbol's best bid, best offer or market changes.
+//! The stream of a tape. It has a line if and only if a symbol's best bid, best offer or market changes.
 #![tactic(auto)]
 
 mod following;

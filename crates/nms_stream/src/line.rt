@@ -45,7 +45,7 @@ pub(crate) fn tell_line(
     out.extend_from_slice(&buf[start..])
 }
 
-/// Writes the first fields of a line before its rows: the version, the symbol, the market.
+/// Writes the first fields of a line before its rows: the version, the symbol, and the market.
 fn head_before(buf: &mut [u8], end: usize, number: u64, sym: &str, market: &str) -> usize
     requires room { 38 ≤ end }
     requires within { end ≤ length buf.old }
@@ -74,8 +74,8 @@ fn rows_before(buf: &mut [u8], roster: &Roster, quoted: &Quoted) -> usize
     row_before(buf, end, roster, &quoted.bid)
 }
 
-/// Writes a best row's three fields, which take at most 52 bytes, so that they end at a place, and returns where they
-/// start.
+/// Writes the three fields of a best row, which take at most 52 bytes, so that they end at a place. Returns the place at which
+/// they start.
 fn row_before(buf: &mut [u8], end: usize, roster: &Roster, row: &Option<Row>) -> usize
     requires row { IfSome row.now (λ row. row.part < length roster.now.parts) }
     requires room { 52 ≤ end }

@@ -1,4 +1,4 @@
-//! The best quotations of a symbol: `specs/Quoted`.
+//! The best quotations of a symbol on a board: `specs/Quoted`.
 ghost use Rattle.std.specs.Prelude.{◌≡◌, ◌<◌, length, IfSome};
 ghost use Rattle.nms_board.specs.Shown.{seen_on};
 ghost use Rattle.nms_board.specs.declared.row.Row.{Row};
@@ -7,17 +7,17 @@ ghost use Rattle.nms_stream.specs.Quoted.{are_alike, is_alike, quoted_in};
 use nms_board::{Boards, Row};
 use nms_quote::{Side, Sym};
 
-/// The best bid and the best offer of a symbol (17 CFR 242.600, "national best bid and national best offer"), `None` if
-/// a side has no quotation.
+/// The best bid and the best offer of a symbol (17 CFR 242.600, "national best bid and national best offer"). A side is `None`
+/// if it has no quotation.
 #[derive(Clone, Copy)]
 pub struct Quoted {
-    /// The best bid: its price in 1/10,000 dollar, its displayed size in shares.
+    /// The best bid, with its price in 1/10,000 dollar and its displayed size in shares.
     pub bid: Option<Row>,
     /// The best offer, as the bid.
     pub offer: Option<Row>,
 }
 
-/// The best quotations of a symbol of a board. Takes no memory, and ranks nothing.
+/// The best quotations of a symbol on a board. It takes no memory, and ranks nothing.
 pub fn quoted_on(board: &Boards, sym: Sym) -> Quoted
     requires { sym < length board.now.sizes.lots }
     ensures best { result ≡ quoted_in (seen_on board.now sym) }
@@ -33,8 +33,8 @@ pub fn quoted_on(board: &Boards, sym: Sym) -> Quoted
 impl Quoted {
     ghost use Rattle.nms_stream.specs.Quoted.{are_alike};
 
-    /// Whether it looks like another one: on each side one participant, one price and one displayed size, or
-    /// nothing. Receipts, and whether a quotation is automated, are not looked at.
+    /// Whether it looks like another one. Then each side has the same participant, price and displayed size, or nothing.
+    /// Receipts, and whether a quotation is automated, do not matter.
     pub fn is_like(&self, other: &Quoted) -> bool
         ensures { result ≡ are_alike self.now other.now }
     {

@@ -1,4 +1,4 @@
-//! A board at a version of a tape: `specs/Replays`.
+//! Moving a board to any version of a tape: `specs/Replays`.
 ghost use Rattle.std.specs.Prelude.{◌≡◌, ◌≤◌, IfOk, MatchOption, length, slice_get, take};
 ghost use Rattle.nms_board.specs.View.{view_of};
 ghost use Rattle.nms_board.specs.declared.TheConstants.{MOST_ROWS};
@@ -33,14 +33,14 @@ impl<'a> Replay<'a> {
         }
     }
 
-    /// What the board shows of a symbol.
+    /// What the board shows for a symbol.
     pub fn view(&self, sym: Sym) -> View
         ensures { result ≡ view_of (sizes_in self.now.tape.now) (take self.now.board.applied self.now.tape.now.changes.items) sym }
     {
         self.board.view(sym)
     }
 
-    /// Moves the board over one more change, and returns that; `None` after the last one.
+    /// Moves the board over one more change, and returns the change; `None` after the last one.
     pub fn step(&mut self) -> Option<Change>
         ensures tape { self.new.tape ≡ self.old.tape }
         ensures step { MatchOption result (self.old.board.applied ≡ length self.old.tape.now.changes.items)
@@ -48,7 +48,7 @@ impl<'a> Replay<'a> {
     {
         match self.next() {
             Some(change) => {
-                // Copied before it is passed on: the borrow checker treats a passed value as moved.
+                // The change is copied before it is passed on, because the borrow checker treats a passed value as moved.
                 let taken = change;
                 self.board.apply(change);
                 Some(taken)
@@ -67,7 +67,7 @@ impl<'a> Replay<'a> {
             .copied()
     }
 
-    /// Moves the board to a version: forward, or if it is past that, from the start. It takes no memory.
+    /// Moves the board to a version: forward, or from the start if it is past the version. It takes no memory.
     pub fn move_to(&mut self, version: u64)
         requires within { version ≤ length self.old.tape.now.changes.items }
         ensures tape { self.new.tape ≡ self.old.tape }

@@ -1,4 +1,4 @@
-//! Why a stream was not written whole.
+//! Why a stream was not written completely.
 ghost use Rattle.std.specs.Prelude.{◌≡◌};
 ghost use Rattle.nms_stream.specs.Faults.{code_of, status_of};
 
@@ -7,16 +7,16 @@ use nms_files::ChangesFault;
 use std::fmt;
 use thiserror::Error;
 
-/// Why a stream was not written whole.
+/// Why a stream was not written completely.
 #[derive(Clone, Copy, Debug, PartialEq, Eq, Error)]
 pub enum StreamFault {
     /// The file of changes is no tape. Nothing was written.
     Changes(ChangesFault),
     /// B1: no board was made. Nothing was written.
     Board(BoardFault),
-    /// E2: the writer failed. A prefix of the stream was written, and nothing else.
+    /// E2: the writer failed. Only a prefix of the stream was written.
     WriteFault,
-    /// E4: out of memory. A prefix of the stream was written, possibly none, and nothing else.
+    /// E4: out of memory. Only a prefix of the stream was written, possibly an empty one.
     NoMemory,
 }
 
@@ -33,7 +33,7 @@ impl StreamFault {
         }
     }
 
-    /// The exit status of a program that it ends: that of the file's fault, 1 for the writer, 5 for memory.
+    /// The exit status of a program that ends with this fault: that of the file's fault, 1 for the writer, 5 for memory.
     pub fn status(self) -> u8
         ensures { result ≡ status_of self }
     {

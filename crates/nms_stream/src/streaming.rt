@@ -1,4 +1,4 @@
-//! A whole stream, written in pieces: `specs/Stream`, `specs/StreamFile`.
+//! A complete stream, written in pieces: `specs/Stream`, `specs/StreamFile`.
 ghost use Rattle.std.specs.Prelude.{◌≡◌, ◌<◌, ◌++◌, ◌∷◌, [], List, length, true, false, IfErr, IfSome, OnErr, OnOk};
 ghost use Rattle.std.specs.Io.KnownBytes.{Appends};
 ghost use Rattle.nms_quote.specs.Roster.{sizes_of};
@@ -24,11 +24,12 @@ use std::io::{Read, Write};
 /// How many bytes wait before they are written.
 const PIECE: usize = 65_536;
 
-/// Streams the changes of a file: a header, then a line exactly when the best bid, best offer or market of a symbol
-/// that is asked for changes; in order of versions, then of symbols. Without a symbol all of the roster are asked for.
+/// Streams the changes of a file. After a header there is a line if and only if a wanted symbol's best bid, best offer or
+/// market changes. The lines are in order of versions, then of symbols. Without a symbol, all symbols of the roster are asked
+/// for.
 ///
-/// The file is read first. `Changes` and `Board` leave nothing written, `WriteFault` and `NoMemory` a prefix of
-/// the stream, and nothing else. Beyond the file's changes memory is taken for a board and some 128 KiB of lines.
+/// The file is read first. After `Changes` or `Board` nothing is written. After `WriteFault` or `NoMemory` only a prefix of the
+/// stream is written. In addition to the file's changes, memory is taken for a board and about 128 KiB of lines.
 pub fn stream_file<R: Read + Drop, W: Write>(
     alloc: Global,
     setup: &Setup,
@@ -93,7 +94,7 @@ fn stream_along<W: Write>(
     send(out, writer)
 }
 
-/// Goes on by one change, and writes what waits once there is enough of it.
+/// Moves on by one change, and writes what waits once there is enough of it.
 fn advance<W: Write>(
     follower: &mut Follower,
     roster: &Roster,

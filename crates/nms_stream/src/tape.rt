@@ -1,4 +1,4 @@
-//! The changes of a file, with what is known of them.
+//! The changes of a file, with what is known about them.
 ghost use Rattle.std.specs.Prelude.{◌≡◌, ◌≤◌, All, IfErr, IfOk, length, true};
 ghost use Rattle.nms_quote.specs.Roster.{holds, sizes_of};
 ghost use Rattle.nms_quote.specs.declared.TheConstants.{MOST_CHANGES};
@@ -10,14 +10,15 @@ use nms_quote::{Change, Roster};
 use std::alloc::Global;
 use std::io::Read;
 
-/// Changes of a setup's participants and symbols, no more than a board takes: so who is given a tape need not ask for that.
+/// Changes of a setup's participants and symbols, and no more than a board takes. So a function that is given a tape need not
+/// require that.
 #[derive(Drop)]
 pub struct Tape<'a> {
     /// The setup.
     pub setup: &'a Setup,
     /// Its roster.
     pub roster: &'a Roster,
-    /// The changes, first to last.
+    /// The changes, from first to last.
     pub changes: Vec<Change>,
     pub ghost own: { roster.now ≡ setup.now.roster },
     pub ghost held: { All (λ change. holds (sizes_of roster.now) change ≡ true) changes.items },
@@ -25,7 +26,7 @@ pub struct Tape<'a> {
 }
 
 impl<'a> Tape<'a> {
-    /// The changes of a file, read whole by `read_changes` of `nms_files`.
+    /// Reads all changes of a file, by `read_changes` of `nms_files`.
     pub fn read<R: Read + Drop>(
         alloc: Global,
         setup: &'a Setup,

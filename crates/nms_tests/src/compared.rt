@@ -1,4 +1,5 @@
-//! A plan of the planner against that of the plain slow one: the same plan and the same certificate, both confirmed.
+//! Comparing a plan of the planner with that of the plain slow one. The plan and the certificate are the same, and both are
+//! confirmed.
 ghost use Rattle.std.specs.Prelude.{◌≡◌, IfSome};
 
 use crate::plain::plain_plan;
@@ -11,7 +12,7 @@ use nms_quote::{
 use nms_sweep::plan;
 use nms_units::{Price, Shares};
 
-/// What is asked for: shares, a limit in 1/10,000 dollar, whether manual quotations may be used, and against whom
+/// The order that is wanted: shares, a limit in 1/10,000 dollar, whether manual quotations may be used, and against whom
 /// self-help is declared.
 #[derive(Clone, Copy)]
 pub(crate) struct Wanted {
@@ -47,7 +48,7 @@ fn is_same(plan: &Plan, cuts: &Certificate, other: &Plan, other_cuts: &Certifica
         && cuts.as_slice() == other_cuts.as_slice()
 }
 
-/// What is wrong with the planner's answer, or nothing.
+/// What is wrong with the planner's answer; empty if nothing is.
 pub(crate) fn finding(view: &View, fees: &FeeBook, wanted: &Wanted) -> Option<&'static str> {
     let order = order_for(view.sym(), wanted)?;
     let (plain, plain_cuts) = plain_plan(view, &order, fees)?;

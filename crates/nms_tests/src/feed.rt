@@ -22,7 +22,7 @@ use std::test::Fail;
 use std::thread;
 use std::thread::{Promise, Threads};
 
-/// A bid of n shares by the participant at a place: the number distinguishes it from its other ones.
+/// A bid of n shares by the participant at a place. The number distinguishes it from its other bids.
 fn bid_of(place: u8, shares: u32) -> Option<Change> {
     let bid = SideQuote::new(Price::new(100_000)?, Shares::new(shares)?);
     Some(Change::Quote {
@@ -82,7 +82,7 @@ fn open_two<R: Abort>(rt: &R, alloc: Global, capacity: usize) -> (Sender, Sender
     (a, b, taker)
 }
 
-/// Closes a lane of two senders. All ends come back if not all was taken, and none if memory ran out.
+/// Closes a lane of two senders. All ends come back if not everything was taken, and none if out of memory.
 fn close_two(
     alloc: Global,
     a: Sender,
@@ -227,7 +227,7 @@ fn a_taker_that_stops_and_takes_again_loses_nothing(rt: HostRuntime) {
     compare_closed(&rt, rt.alloc(), a, b, taker, (2, 1, 3));
 }
 
-/// Sends a bid from each sender of a lane, of as many shares as its feed's place after 1. The senders come back in `back`.
+/// Sends a bid from each sender of a lane. Its shares are one more than its feed's place. The senders come back in `back`.
 fn each_sends<R: Wait>(
     rt: &R,
     senders: Vec<Sender>,
@@ -245,7 +245,7 @@ fn each_sends<R: Wait>(
     back
 }
 
-/// Sends a bid of as many shares as its feed's place after 1.
+/// Sends a bid whose shares are one more than its feed's place.
 fn send_one<R: Wait>(rt: &R, mut sender: Sender) -> Sender
     requires { sender.sent ≡ [] }
     ensures lane { result.lane ≡ sender.lane }
@@ -277,7 +277,7 @@ fn eight_feeds_send_through_one_lane(rt: HostRuntime) -> Result<(), Fail> {
     Ok(())
 }
 
-/// A thread gives back the same end of the same lane.
+/// The fact that a thread gives back the same end of the same lane.
 #[derive(Drop)]
 struct SameEnd(Snapshot<Sender>);
 
@@ -299,7 +299,7 @@ fn send_1000<R: Wait>(rt: &R, mut sender: Sender, place: u8) -> Sender
     sender
 }
 
-/// Takes bids until there were n. Each participant's come in the order of their shares.
+/// Takes bids until there were n. Those of each participant come in the order of their shares.
 fn take_all<R: Wait + Abort>(rt: &R, mut taker: Taker, count: u32) -> Taker
     ensures lane { result.lane ≡ taker.lane }
     ensures senders { result.senders ≡ taker.senders }
@@ -323,7 +323,7 @@ fn take_all<R: Wait + Abort>(rt: &R, mut taker: Taker, count: u32) -> Taker
     taker
 }
 
-/// The shares of the last bids of two participants after one more, if that is the next one of its participant.
+/// The shares of the last bids of two participants after one more bid, if that is the next one of its participant.
 fn follows(last: (u32, u32), told: Option<(u8, u32)>) -> Option<(u32, u32)> {
     let (a, b) = last;
     match told? {
@@ -333,7 +333,7 @@ fn follows(last: (u32, u32), told: Option<(u8, u32)>) -> Option<(u32, u32)> {
     }
 }
 
-/// Sends 1,000 bids from each of two threads, and takes them on the caller's own.
+/// Sends 1,000 bids from each of two threads, and takes them in the caller's thread.
 fn run_both<R: Threads + Wait + Abort + Sync>(
     rt: &R,
     a: Sender,

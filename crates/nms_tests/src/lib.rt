@@ -1,8 +1,8 @@
-//! The tests of the crates below that take threads, or calls that no program makes: the lane, published versions, live runs,
-//! the rank order of a board, its opening changes, and the planner beside a plain slow one. Other facts that no clause states are tested in `nms_examples`, and the
-//! program's answers to a call in `examples/` and `tests/`.
+//! The tests of the lower crates that need threads, or calls that no program makes. They are of the lane, published versions,
+//! live runs, the rank order of a board and its opening changes. The planner is compared with a plain slow one. Other facts
+//! that no clause states are tested in `nms_examples`, and the program's answers to a call in `examples/` and `tests/`.
 //!
-//! They stand here because the gate proves a crate once more for its own tests.
+//! They are in a separate crate because the gate proves a crate once more for its own tests.
 #![tactic(auto)]
 
 #[cfg(test)]

@@ -1,4 +1,4 @@
-//! Live runs over words: a setup's text, the texts of its feeds, and a table of orders.
+//! Live runs over texts: a setup's text, the texts of its feeds, and a table of orders.
 ghost use Rattle.std.specs.Prelude.{◌<◌, All};
 
 mod chance;
@@ -47,7 +47,7 @@ pub(crate) fn setup_text<R: Abort>(
     .expect(rt, "memory")
 }
 
-/// Its participants and symbols.
+/// The participants and symbols of that setup.
 fn participants() -> &'static str {
     r#"
 [[participant]]
@@ -79,7 +79,7 @@ lot = 100
 "#
 }
 
-/// The order of these numbers.
+/// The order with these numbers.
 pub(crate) fn order_of(wanted: &Wanted) -> Option<Order> {
     let side = if wanted.buys {
         OrderSide::Buy
@@ -121,7 +121,7 @@ fn orders_of<R: Abort>(rt: &R, alloc: Global, desks: u8, table: &[Wanted]) -> Ve
     orders
 }
 
-/// The texts of feeds, each in memory of its own.
+/// The texts of feeds, each in its own memory.
 fn texts_of<R: Abort>(rt: &R, alloc: Global, feeds: &[&[u8]]) -> Vec<Vec<u8>> {
     let mut texts = Vec::new(alloc);
     for feed in feeds {
@@ -131,7 +131,7 @@ fn texts_of<R: Abort>(rt: &R, alloc: Global, feeds: &[&[u8]]) -> Vec<Vec<u8>> {
     texts
 }
 
-/// A run of these orders. The setup has to have as many feeds.
+/// A run of these orders. The setup has to have the same number of feeds.
 fn run_orders<R: Threads + Wait + Abort + Sync, G: Gate>(
     rt: &R,
     alloc: Global,
@@ -147,7 +147,7 @@ fn run_orders<R: Threads + Wait + Abort + Sync, G: Gate>(
     run_live(rt, alloc, setup, texts, orders, gate)
 }
 
-/// One run.
+/// Makes one run.
 fn run_once<R: Threads + Wait + Abort + Sync, G: Gate>(
     rt: &R,
     alloc: Global,
@@ -160,7 +160,7 @@ fn run_once<R: Threads + Wait + Abort + Sync, G: Gate>(
     run_orders(rt, alloc, setup, feeds, orders, gate)
 }
 
-/// A run over a setup's text.
+/// Makes a run over a setup's text.
 pub(crate) fn run<R: Threads + Wait + Abort + Sync, G: Gate>(
     rt: &R,
     alloc: Global,
@@ -173,7 +173,7 @@ pub(crate) fn run<R: Threads + Wait + Abort + Sync, G: Gate>(
     run_under(rt, alloc, &setup, feeds, table, gate)
 }
 
-/// A run, tried again up to 100 times if it could not be opened: the place of a reader may be missing without a cause.
+/// Makes a run. If it could not be opened, it is tried up to 100 times, because a reader's place may be missing without a cause.
 fn run_under<R: Threads + Wait + Abort + Sync, G: Gate>(
     rt: &R,
     alloc: Global,

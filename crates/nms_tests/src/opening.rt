@@ -25,7 +25,7 @@ fn reopened_in_all<R: Abort>(rt: &R, alloc: Global) -> Option<(u64, u64)> {
     reopened_under(rt, alloc, setup.roster())
 }
 
-/// As above, for a roster.
+/// As `reopened_in_all`, for a roster.
 fn reopened_under<R: Abort>(rt: &R, alloc: Global, roster: &Roster) -> Option<(u64, u64)> {
     // The prover has to see the types of a change before it is held, so the code mentions them.
     let _seen: (Option<SideQuote>, Option<Lot>) = (None, None);
@@ -36,7 +36,7 @@ fn reopened_under<R: Abort>(rt: &R, alloc: Global, roster: &Roster) -> Option<(u
     }
 }
 
-/// As above, for a board after one change.
+/// As `reopened_under`, for a board after one change.
 fn reopened_after<R: Abort>(
     rt: &R,
     alloc: Global,

@@ -1,7 +1,8 @@
-//! A plain slow planner, written from the rules. For each price at which an order could trade it takes the protected quotations
-//! at better prices in full. The rest comes from the pool by what a share costs, then the better price, then the lower place.
-//! Of the prices it takes the one of least cost, and the best of equals. Quotations of participants that the order names under
-//! self-help are as if they were not there. It keeps no sums and sorts nothing: for each row it counts anew what comes before.
+//! A plain slow planner, written from the rules. For each price at which an order could trade, it takes the protected
+//! quotations at better prices in full. The rest comes from the pool by the cost of a share, then the better price, then the
+//! lower place. Of these prices it takes the one of least cost, and if several have it, the best. Quotations of participants
+//! that the order names under self-help are as if they were not there. It keeps no sums and sorts nothing: for each row it
+//! counts again what comes before.
 use arrayvec::ArrayVec;
 use nms_board::View;
 use nms_fees::FeeBook;
@@ -31,7 +32,7 @@ impl Default for Offered {
     }
 }
 
-/// What is offered for an order, and how much of it can be filled.
+/// The quotations that are offered for an order, and how many shares of it can be filled.
 #[derive(Drop)]
 struct Market {
     side: OrderSide,
@@ -53,7 +54,7 @@ impl Market {
         row.protected && self.is_better(row.price, price)
     }
 
-    /// Whether a row is one of those that the rest may come from.
+    /// Whether a row is one of those from which the rest may come.
     fn is_in_pool(&self, row: &Offered, price: Price) -> bool {
         !self.is_better(price, row.price) && !self.is_swept(row, price)
     }
@@ -115,7 +116,7 @@ impl Market {
         }
     }
 
-    /// What all shares cost.
+    /// The cost of all shares.
     fn cost(&self, price: Price) -> i128 {
         let mut cost = 0i128;
         for row in self.rows.as_slice() {
@@ -125,7 +126,7 @@ impl Market {
         cost
     }
 
-    /// What the last share costs that is taken from the pool, or its cheapest share if none is.
+    /// The cost of the last share that is taken from the pool, or of its cheapest share if none is taken.
     fn last_cost(&self, price: Price) -> i128 {
         let number = self.most.saturating_sub(self.swept(price)).max(1);
         for row in self.rows.as_slice() {
@@ -140,7 +141,7 @@ impl Market {
         0
     }
 
-    /// What a cut at a price says.
+    /// The kind of the cut at a price.
     fn kind(&self, price: Price) -> CutKind {
         let swept = self.swept(price);
         if self.most < swept {
@@ -152,7 +153,7 @@ impl Market {
         }
     }
 
-    /// The best price that is worse than one.
+    /// The best price that is worse than the given one.
     fn price_behind(&self, last: Option<Price>) -> Option<Price> {
         let mut found: Option<Price> = None;
         for row in self.rows.as_slice() {
@@ -186,7 +187,7 @@ impl Market {
         cuts
     }
 
-    /// The price of least cost, and the best of equals.
+    /// The price of least cost; if several have it, the best one.
     fn chosen(&self, cuts: &Certificate) -> Option<Price> {
         let mut best: Option<Price> = None;
         for cut in cuts.as_slice() {
@@ -203,7 +204,7 @@ impl Market {
         best
     }
 
-    /// The legs if the worst price is a chosen one: the best price first, then the lower place.
+    /// The legs if the worst price is the chosen one, by the best price first, then the lower place.
     fn legs(&self, cuts: &Certificate, chosen: Price) -> Option<ArrayVec<Leg, 32>> {
         let mut legs = ArrayVec::new_in(());
         for cut in cuts.as_slice() {
@@ -223,7 +224,7 @@ impl Market {
     }
 }
 
-/// What is offered for an order on a view, by place.
+/// The quotations that are offered for an order on a view, by place.
 fn market_for(view: &View, order: &Order, fees: &FeeBook) -> Market {
     let side = match order.side {
         OrderSide::Buy => Side::Offer,

@@ -1,4 +1,4 @@
-//! The planner against the plain slow one on every small board.
+//! Comparing the planner with the plain slow one on every small board.
 use crate::compared::{Quoted, Wanted, finding, quote};
 use crate::same::same;
 use nms_board::{Boards, View};
@@ -7,7 +7,7 @@ use nms_quote::{OrderSide, PartSet, QState, Sym};
 use std::alloc::Global;
 use std::process::Abort;
 
-/// The quotation of a number below 12: automated or manual, at 0.9999, 1.0000 or 1.0001, with 100 or 200 shares.
+/// The quotation with a number below 12: automated or manual, at 0.9999, 1.0000 or 1.0001, with 100 or 200 shares.
 fn quoted_as(number: u32) -> Quoted {
     Quoted {
         state: if number % 2 == 0 {
@@ -20,7 +20,7 @@ fn quoted_as(number: u32) -> Quoted {
     }
 }
 
-/// Plans an order of each size on a view, with manual quotations and without: how many plans were right, and what is
+/// Plans an order of each size on a view, with manual quotations and without. Returns how many plans were right, and what is
 /// wrong with the first that is not.
 fn plan_each(
     view: &View,
@@ -52,7 +52,7 @@ fn plan_each(
     (right, "")
 }
 
-/// As above, on each board of three quotations.
+/// As `plan_each`, on each board of three quotations.
 fn plan_all(
     boards: &mut Boards,
     fees: &FeeBook,
@@ -79,8 +79,8 @@ fn plan_all(
     (right, "")
 }
 
-/// N, P and Y quote each of the twelve quotations of one side, and orders of both sides are planned: 20,736 plans that
-/// name nobody, and as many that name P.
+/// N, P and Y each quote every one of the twelve quotations of one side, and orders of both sides are planned. There are 20,736
+/// plans that name no participant, and as many that name P.
 #[test]
 fn same_plan(rt: HostRuntime) {
     same(&rt, plan_small(&rt, rt.alloc()), (41_472, ""));
@@ -93,7 +93,7 @@ fn plan_small<R: Abort>(rt: &R, alloc: Global) -> (u32, &'static str) {
     plan_both_sides(rt, &mut boards, &setup)
 }
 
-/// As above, on a board, for orders that name nobody and for those that name P, of both sides.
+/// As `plan_all`, on a board, for orders of both sides: those that name no participant and those that name P.
 fn plan_both_sides<R: Abort>(rt: &R, boards: &mut Boards, setup: &Setup) -> (u32, &'static str) {
     let sym = setup.roster().find_sym(b"ABC").expect(rt, "ABC");
     let p = setup.roster().find_part(b"P").expect(rt, "P");

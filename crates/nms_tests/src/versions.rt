@@ -1,4 +1,4 @@
-//! Published versions: what no clause says, and the worked steps by values worked out by hand.
+//! Published versions: what no clause says, and the worked steps with values worked out by hand.
 ghost use Rattle.std.specs.Prelude.{◌≡◌, All, IfOk, IfSome};
 
 use crate::same::same;
@@ -16,7 +16,7 @@ use std::sync::Wait;
 use std::test::Fail;
 use std::thread::{Threads, join};
 
-/// N and P on feed A, Y and Z on feed B, ABC in lots of 100, a queue of 2, a tape of 3, two desks.
+/// The setup's text: N and P on feed A, Y and Z on feed B, ABC in lots of 100, a queue of 2, a tape of 3, two desks.
 fn small() -> &'static str {
     r#"tape_limit = 3
 queue = 2
@@ -50,7 +50,7 @@ lot = 100
 /// An offer of ABC: the participant's place, the price in 1/10,000 dollar and the shares.
 type Offer = (u8, u64, u32);
 
-/// The change that an offer is.
+/// The change that an offer means.
 fn change_of((place, price, shares): Offer) -> Option<Change> {
     let offer = SideQuote::new(Price::new(price)?, Shares::new(shares)?);
     Some(Change::Quote {
@@ -313,7 +313,7 @@ fn desks_see_what_is_published_told_or_not(rt: HostRuntime) -> Result<(), Fail> 
     run(&rt, rt.alloc(), SETUP_K, &steps)
 }
 
-/// Offers of 100 shares are hidden under a lot of 101, once it is published, and show again under one of 40.
+/// Offers of 100 shares are hidden under a lot of 101, once it is published, and are shown again under one of 40.
 #[test]
 fn desks_see_a_new_round_lot_once_it_is_published(rt: HostRuntime) -> Result<(), Fail> {
     let steps = [
@@ -434,8 +434,8 @@ fn sees_worked(desk: &mut Desk) -> bool
     }
 }
 
-/// Desk 0 is informed of version 3, desk 1 of nothing. Both see it whole, and desk 0 still does with two changes more that are
-/// not published. It settles on no receipt of version 0, and on a second one of version 3.
+/// Desk 0 is informed of version 3, desk 1 of nothing. Both see all of it, and desk 0 still does after two more changes that
+/// are not published. It settles on no receipt of version 0, and on a second one of version 3.
 #[test]
 fn a_desk_settles_on_what_it_saw_and_was_told_of(rt: HostRuntime) -> Result<(), Fail> {
     let (mut publisher, mut one, mut other) = open_on(rt.alloc(), &rt, SETUP_K)?;
@@ -463,8 +463,7 @@ fn a_desk_settles_on_what_it_saw_and_was_told_of(rt: HostRuntime) -> Result<(), 
     Ok(())
 }
 
-/// Appends an offer to a tape of n changes. A refused one leaves the tape and the view, and is appended once there is
-/// memory.
+/// Appends an offer to a tape of n changes. A refused one leaves the tape and the view, and is appended once there is memory.
 fn append_again<R: Abort>(rt: &R, publisher: &mut Publisher, desk: &mut Desk, count: u64) {
     let mut told = append(rt, publisher, 0);
     if told == "V3" {
@@ -516,7 +515,7 @@ fn publish_often<R: Wait + Abort>(rt: &R, publisher: &mut Publisher, times: u32)
     }
 }
 
-/// A publisher of 1,000 publications beside a desk of 2,000 looks.
+/// Runs a publisher of 1,000 publications next to a desk of 2,000 looks.
 fn run_two<R: Threads + Wait + Abort + Sync>(
     rt: &R,
     publisher: &mut Publisher,
@@ -530,7 +529,7 @@ fn run_two<R: Threads + Wait + Abort + Sync>(
     looked
 }
 
-/// As above, beside two desks, each in a thread of its own.
+/// As `run_two`, next to two desks, each in its own thread.
 fn run_three<R: Threads + Wait + Abort + Sync>(
     rt: &R,
     publisher: &mut Publisher,
@@ -549,7 +548,7 @@ fn a_thousand_publications_beside_two_desks_never_fall(rt: HostRuntime) -> Resul
     let (mut publisher, mut one, mut other) = open_on(rt.alloc(), &rt, SETUP_K)?;
     let looks = run_three(&rt, &mut publisher, &mut one, &mut other);
     same(&rt, looks, (true, true));
-    // The tape is full.
+    // This is refused because the tape is full.
     same(&rt, append(&rt, &mut publisher, 0), "V4");
     same(&rt, looked(&mut one), Ok((1000, 1)));
     same(&rt, publisher.close(&rt).len(), 1000);

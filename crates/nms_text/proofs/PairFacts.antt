@@ -31,7 +31,7 @@ first_made {X = X} f low (suc n) x rest e = by (f low) refl (first_made f (low +
     by None here later more = later more
     by (Some y) here later first = let same : y ≡ x = cc in (low, here ∙ ap Some same)
 
--- a pair that is left stands before the end
+-- a pair that is left is before the end
 pub place_below : (seen : Seen) (place : ℕ) (pair : Pair) (rest : List Pair) → pairs_from place seen ≡ pair ∷ rest → place < 1024
 place_below seen place pair rest e = elim (cases_lt place 1024) [
   | inl below ↦ below

@@ -26,7 +26,7 @@ taken_record version = codes "TAKEN" ∷ decimal version ∷ []
 abbrev pub published_record : ℕ → Record
 published_record version = codes "PUB" ∷ decimal version ∷ []
 
--- a desk was told of a version
+-- a desk has learned of a version
 abbrev pub told_record : ℕ → ℕ → Record
 told_record desk version = codes "TOLD" ∷ decimal desk ∷ decimal version ∷ []
 

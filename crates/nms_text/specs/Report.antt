@@ -20,7 +20,7 @@ use Rattle.nms_nbbo.specs.declared.pair.Clause.{Clause}
 use Rattle.nms_nbbo.specs.declared.pair.Clause.TheVariants as clause
 use Rattle.nms_text.specs.Answers.{market_word}
 
--- a text at the left of a column, then spaces; one longer than the column stands as it is
+-- a text at the left of a column, then spaces; one longer than the column is written as it is
 abbrev pub at_left : ℕ → List ℕ → List ℕ
 at_left width text = text ++ replicate (width - length text) 32
 
@@ -32,7 +32,7 @@ at_right width text = replicate (width - length text) 32 ++ text
 abbrev pub line_of : List (List ℕ) → List ℕ
 line_of columns = join_with_byte 32 columns ++ 10 ∷ []
 
--- the symbol, the version, and how the best bid and offer stand to each other
+-- the symbol, the version, and the state of the market between the best bid and offer
 abbrev pub header_line : Listing → Seen → Market → List ℕ
 header_line roster seen market = line_of (at_left 8 (symbol_text roster seen.sym) ∷ at_right 8 (decimal seen.version) ∷ market_word market
     ∷ [])
@@ -78,7 +78,7 @@ pair_line roster pair =
 unfoldable pub pairs_text : Listing → Seen → List ℕ
 pairs_text roster seen = flat_map (pair_line roster) (pairs_from 0 seen)
 
--- the whole of it, for a best bid and a best offer
+-- all of it, for a best bid and a best offer
 abbrev pub report_text : Listing → Seen → Option Row → Option Row → List ℕ
 report_text roster seen bid offer =
     header_line roster seen (market_of bid offer) ++ side_text roster seen Bid bid ++ side_text roster seen Offer offer

@@ -1,4 +1,4 @@
-//! The answers that a desk gets, a record at a time (specs/Answers).
+//! The answers that a desk gets, one record at a time (specs/Answers).
 ghost use Rattle.std.specs.Prelude.{◌≡◌, ◌+◌, ◌<◌, ◌≤◌, ◌++◌, ◌∷◌, [], All, drop, length, map, false, OnOk, IfSome, Ok, Err};
 ghost use Rattle.nms_lines.specs.Text.{later_fields, text_of};
 ghost use Rattle.nms_board.specs.View.{Seen};
@@ -17,7 +17,7 @@ use std::alloc::AllocError;
 /// Room for the record of a best bid and offer, which takes at most 147 bytes after its market and 66 before.
 const BEST_ROOM: usize = 224;
 
-/// Appends the record that refuses the record of that number.
+/// Appends the record that refuses the record with that number.
 pub fn tell_refusal(out: &mut Vec<u8>, number: u64, code: &str) -> Result<(), AllocError>
     ensures { OnOk result (out.new.items ≡ out.old.items ++ text_of (refusal number code.now ∷ [])) }
 {
@@ -45,7 +45,7 @@ pub fn tell_published(out: &mut Vec<u8>, version: u64) -> Result<(), AllocError>
     end_record(out)
 }
 
-/// Appends that a desk was told of a version.
+/// Appends that a desk has learned of a version.
 pub fn tell_told(out: &mut Vec<u8>, desk: u8, version: u64) -> Result<(), AllocError>
     ensures { OnOk result (out.new.items ≡ out.old.items ++ text_of (told_record desk version ∷ [])) }
 {
@@ -123,8 +123,8 @@ fn rows_before(buf: &mut [u8], roster: &Roster, bid: &Option<Row>, offer: &Optio
     row_before(buf, end, roster, bid)
 }
 
-/// Writes a best row's four fields, which take at most 73 bytes, so that they end at a place, and returns where they
-/// start.
+/// Writes a best row's four fields, which take at most 73 bytes, so that they end at a place, and returns the place at which
+/// they start.
 fn row_before(buf: &mut [u8], end: usize, roster: &Roster, row: &Option<Row>) -> usize
     requires row { IfSome row.now (λ row. row.part < length roster.now.parts) }
     requires room { 73 ≤ end }

@@ -1,5 +1,5 @@
-//! All that is written of the quote board: records of answers and of plans, the result of a live run, the report that a
-//! reviewer reads. A record is appended to a buffer, and an answer goes out in one write.
+//! All that is written about the quote board: records of answers and of plans, the result of a live run, and the reviewer's
+//! report. A record is appended to a buffer, and an answer is written in one write.
 #![tactic(auto)]
 
 mod answer;

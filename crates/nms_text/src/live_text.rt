@@ -13,10 +13,10 @@ use nms_quote::{Answer, Roster};
 use std::alloc::{AllocError, Global};
 use std::io::Write;
 
-/// Writes how many changes a live run took, and for each order in order its answer on all of them: the desk, the
-/// order's number, and the plan with its certificate. One write, flushed.
+/// Writes how many changes a live run took, and for each order in order its answer on all of them. An answer has the desk, the
+/// order's number, and the plan with its certificate. It is one write, flushed.
 ///
-/// Only `WriteFault` leaves something written: a prefix of that text.
+/// After `WriteFault` a prefix of that text was written; after any other fault nothing was.
 pub fn write_live<W: Write>(
     alloc: Global,
     roster: &Roster,

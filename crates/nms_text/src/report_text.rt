@@ -17,11 +17,11 @@ use nms_units::Price;
 use std::io::Write;
 use std::{fmt, io};
 
-/// Writes the report of one symbol, a line each: its version and market, its bids and its offers by
-/// participant place, and the pairs that lock or cross in order of place.
+/// Writes the report of one symbol, a line each. It has the version and market, the bids and the offers by participant place,
+/// and the pairs that lock or cross in order of place.
 ///
-/// Takes no memory, and makes many small writes: pass a buffered writer. `WriteFault` is its only fault,
-/// and leaves open how much was written.
+/// Takes no memory, and makes many small writes: pass a buffered writer. `WriteFault` is its only fault, and does not say how
+/// much was written.
 pub fn report<W: Write>(view: &View, roster: &Roster, writer: &mut W) -> Result<(), ScriptFault>
     requires sym { view.now.sym < length roster.now.syms }
     requires parts { (side : Side) → All (λ row. row.part < length roster.now.parts) (rows_on side view.now) }
@@ -145,14 +145,14 @@ fn write_pair<W: Write>(writer: &mut W, roster: &Roster, pair: &Pair) -> io::Res
     writeln!(writer, "{word:<5} {bid:<4} {offer:<4} {later:<4} {clause}")
 }
 
-/// A price at the right of a column of 12.
+/// A price at the right of a column with 12 characters.
 #[derive(Clone, Copy)]
 struct PriceColumn(Price);
 
 impl fmt::Display for PriceColumn {
     ghost output = { λ column. Some (at_right 12 (price_text column.0)) };
 
-    /// Seven places for the dollars, the point, and four decimals.
+    /// Writes seven places for the dollars, the point, and four decimals.
     fn fmt<W: fmt::Write>(&self, f: &mut fmt::Formatter<W>) -> fmt::Result {
         let number = self.0.get();
         let dollars = number / 10_000;
@@ -162,7 +162,7 @@ impl fmt::Display for PriceColumn {
     }
 }
 
-/// Whether a row is of the best row's participant.
+/// Whether a row is that of the best row's participant.
 fn is_best(best: &Option<Row>, row: &Row) -> bool
     ensures { result ≡ is_best best.now row.now }
 {
@@ -191,7 +191,7 @@ pub fn word_of_pair(crossed: bool) -> &'static str
     if crossed { "CROSS" } else { "LOCK" }
 }
 
-/// The word for the clause that a pair falls under: the earlier quotation is protected, or the later one manual, or neither.
+/// The word for the clause of a pair: the earlier quotation is protected, or the later one manual, or neither.
 pub fn word_of_clause(clause: Clause) -> &'static str
     ensures { result.now ≡ clause_word clause }
 {

@@ -5,12 +5,12 @@ ghost use Rattle.nms_text.specs.Faults.{code_of_script, status_of_script};
 use std::fmt;
 use thiserror::Error;
 
-/// Why a script ended early. What was written before stands.
+/// Why a script ended early. What was written before stays.
 #[derive(Clone, Copy, Debug, PartialEq, Eq, Error)]
 pub enum ScriptFault {
     /// E1: the reader failed. The answers to the records read so far were written.
     ReadFault,
-    /// E2: the writer failed. A script wrote a prefix of its answers, and nothing else; of a report something may be written.
+    /// E2: the writer failed. A script wrote only a prefix of its answers. A report may be written in part.
     WriteFault,
     /// E3: there are more than 10,000,000 records. The answers to the first 10,000,000 were written.
     TooLong,
@@ -31,7 +31,7 @@ impl ScriptFault {
         }
     }
 
-    /// The exit status of a program that it ends: 1 for a stream, 6 for the script's length, 5 for memory.
+    /// The exit status of a program that ends with it: 1 for a stream, 6 for the script's length, 5 for memory.
     pub fn status(self) -> u8
         ensures { result ≡ status_of_script self }
     {

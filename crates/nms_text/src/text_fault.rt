@@ -10,7 +10,7 @@ use thiserror::Error;
 pub enum TextFault {
     /// L12: there was no memory for the text. Nothing was written.
     NoMemory,
-    /// L13: the writer failed. A prefix of the text was written, and nothing else.
+    /// L13: the writer failed. Only a prefix of the text was written.
     WriteFault,
 }
 
@@ -25,7 +25,7 @@ impl TextFault {
         }
     }
 
-    /// The exit status of a program that it ends: 1 for the writer, 5 for memory.
+    /// The exit status of a program that ends with it: 1 for the writer, 5 for memory.
     pub fn status(self) -> u8
         ensures { result ≡ status_of_text self }
     {

@@ -29,7 +29,7 @@ cut_line width text place wide short =
     let other : (length (take width (drop (place * width) text)) == width) ≡ false = grind (arith, nat_tests) in
     rw other refl
 
--- if no whole line is left, fewer bytes than a line are left
+-- if no complete line is left, fewer bytes than a line are left
 pub last_lines : (long width : ℕ) → 0 < width → (long / width * width ≤ long) × (long < long / width * width + width)
 last_lines long width wide =
     let whole = div-add-mod' long width in

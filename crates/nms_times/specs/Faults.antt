@@ -5,7 +5,7 @@ use Rattle.nms_times.specs.TimesText.{IsFirstWrong}
 use Rattle.nms_times.specs.declared.times_fault.TimesFault.{TimesFault}
 use Rattle.nms_times.specs.declared.times_fault.TimesFault.TheVariants as fault
 
--- H1 names the first line that has no time, unless memory ran out
+-- H1 names the first line that has no time, unless out of memory
 abbrev pub IsReadFault : List ℕ → TimesFault → Type 0
 IsReadFault text (fault.NotTime line) = IsFirstWrong text line
 IsReadFault text (fault.TimesFall line) = ⊥

@@ -20,7 +20,7 @@ is_end rest =
     (length rest == 1 && slice_index rest 0 == 10)
     || (length rest == 17 && slice_index rest 0 == 44 && list_all is_ascii_digit (take 15 (drop 1 rest)) && slice_index rest 16 == 10)
 
--- the time of a line: its first 15 bytes, if the line is whole and ends as a line does
+-- the time of a line: its first 15 bytes, if the line is complete and ends as a line does
 abbrev pub time_in : (width : ℕ) → List ℕ → Option ℕ
 time_in width line = if length line == width && is_end (drop 15 line) then time_reading (take 15 line) else None
 

@@ -1,12 +1,12 @@
-//! Laws of the definitions. Each function does nothing: its contract is the law.
+//! Laws about the definitions. Each function does nothing: its contract is the law.
 ghost use Rattle.std.specs.Prelude.{◌≡◌, ℕ, ◌<◌, ◌≤◌, List, length};
 ghost use Rattle.std.specs.List.Sorted.{IsNonDecreasing};
 ghost use Rattle.nms_times.specs.Examples.{ExamplesHold};
 ghost use Rattle.nms_times.specs.Laws.{Splits};
 ghost use Rattle.nms_times.specs.Times.{version_at, version_before};
 
-/// If no time is before an earlier one, the version at a time has exactly the changes that are not later, and the version
-/// before it exactly those that are earlier.
+/// Suppose that no time is before an earlier one. Then the version at a time has exactly the changes that are not later, and
+/// the version before it exactly those that are earlier.
 pub fn the_version_splits_the_times()
     ensures { (times : List ℕ) (t place : ℕ) → IsNonDecreasing times → place < length times → Splits times t place }
 {}

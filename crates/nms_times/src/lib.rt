@@ -1,4 +1,4 @@
-//! Times of day of the changes of a tape, and versions found by them: no boards, no files.
+//! Times of day of the changes of a tape, and versions found by them. This crate knows no boards and no files.
 #![tactic(auto)]
 
 mod laws;

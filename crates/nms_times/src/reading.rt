@@ -1,4 +1,4 @@
-//! A file of times, read: `specs/TimesText`.
+//! Reading a file of times: `specs/TimesText`.
 ghost use Rattle.std.specs.Prelude.{◌≡◌, ◌+◌, ◌*◌, ◌<◌, ◌≤◌, ◌++◌, ◌∷◌, [], length, IfErr, IfOk, OnOk};
 ghost use Rattle.std.specs.Char.{is_ascii_digit};
 ghost use Rattle.std.specs.List.{list_all};
@@ -11,15 +11,15 @@ use crate::times_fault::TimesFault;
 use nms_units::parse_digits;
 use std::alloc::{AllocError, Global};
 
-/// The bytes of a line: a time and a line feed.
+/// How many bytes a line has: a time and a line feed.
 const SHORT: usize = 16;
-/// The bytes of a line with the row of the source: a time, a comma, the row and a line feed.
+/// How many bytes a line has if it names the row of the source: a time, a comma, the row and a line feed.
 const LONG: usize = 32;
-/// The bytes of a time.
+/// How many bytes a time has.
 const TIME: usize = 15;
 
-/// Reads the text of times, a line for each change: 15 digits HHMMSSnnnnnnnnn and a line feed; or, in every line, a comma
-/// and the 15 digits of a row between. Takes 8 bytes of memory a line.
+/// Reads the text of times, which has a line for each change: 15 digits HHMMSSnnnnnnnnn and a line feed. If every line has a
+/// row, a comma and its 15 digits are between. Takes 8 bytes of memory a line.
 ///
 /// `NotTime` has the first line that is not a time. `NoMemory` may replace any answer.
 pub fn read_times(alloc: Global, text: &[u8]) -> Result<Times, TimesFault>
@@ -31,7 +31,7 @@ pub fn read_times(alloc: Global, text: &[u8]) -> Result<Times, TimesFault>
     Ok(Times::of(all))
 }
 
-/// The row of the source that a version's line has. `None` if the lines have none, for version 0, and past the lines.
+/// The row of the source in a version's line. `None` if the lines have no rows, for version 0, and past the lines.
 pub fn source_row(text: &[u8], version: u64) -> Option<u64>
     ensures { result ≡ row_of text.now version }
 {
@@ -76,7 +76,7 @@ fn keep(all: &mut Vec<TimeOfDay>, time: TimeOfDay) -> Result<(), AllocError>
     Ok(())
 }
 
-/// The bytes of a line of a text.
+/// How many bytes a line of a text has.
 fn width_of(text: &[u8]) -> usize
     ensures width { result ≡ width_of text.now }
     ensures low { 16 ≤ result }
@@ -88,7 +88,7 @@ fn width_of(text: &[u8]) -> usize
     }
 }
 
-/// The line at a place, from 0.
+/// The line at a place, counted from 0.
 fn line_at(text: &[u8], width: usize, place: usize) -> &[u8]
     requires { place * width + width ≤ length text.now }
     ensures line { result.now ≡ line_at width text.now place }
@@ -114,7 +114,7 @@ fn time_in(width: usize, line: &[u8]) -> Option<TimeOfDay>
     }
 }
 
-/// Whether a line may end in these bytes after its time.
+/// Whether these bytes may end a line after its time.
 fn is_end(rest: &[u8]) -> bool
     ensures { result ≡ is_end rest.now }
 {

@@ -8,16 +8,16 @@ use crate::time_of_day::TimeOfDay;
 /// The times of the changes after a version, none before an earlier one.
 #[derive(Clone, Copy)]
 pub struct Rising<'a> {
-    /// The version before the first of these changes.
+    /// The version before the first change.
     pub before: u64,
-    /// The times of these changes, in order.
+    /// The times of the changes, in order.
     pub times: &'a [TimeOfDay],
     pub ghost rise: { IsNonDecreasing times.now },
     pub ghost few: { before + length times.now < 2 ^ 64 },
 }
 
 impl Rising<'_> {
-    /// The version at a time: the last with no change later than it.
+    /// The version at a time, which is the last with no change later than it.
     pub fn version_at(&self, time: TimeOfDay) -> u64
         ensures version { result ≡ self.now.before + version_at self.now.times.now time }
         ensures high { result ≤ self.now.before + length self.now.times.now }
@@ -30,7 +30,7 @@ impl Rising<'_> {
         self.before + found as u64
     }
 
-    /// The version before a time: the last with only changes earlier than it.
+    /// The version before a time, which is the last with only changes earlier than it.
     pub fn version_before(&self, time: TimeOfDay) -> u64
         ensures version { result ≡ self.now.before + version_before self.now.times.now time }
         ensures high { result ≤ self.now.before + length self.now.times.now }

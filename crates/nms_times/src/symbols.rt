@@ -7,14 +7,14 @@ use nms_units::parse_digits;
 /// The changes of a symbol: those after a version, up to another. Other changes may be between them.
 #[derive(Clone, Copy, Debug, PartialEq, Eq)]
 pub struct Span {
-    /// The version before the first of them.
+    /// The version before the first change.
     pub before: usize,
-    /// The version after the last of them.
+    /// The version after the last change.
     pub last: usize,
 }
 
-/// The span of a symbol in the text of symbols, a line each: a name, a comma, the version after its first change, a
-/// comma, the version after its last. `None` if no line has the name; the first of several counts.
+/// The span of a symbol in the text of symbols. A line has a name, a comma, the version after its first change, a comma, and
+/// the version after its last. `None` if no line has the name; the first of several counts.
 ///
 /// `NotSymbol` has the first line that is malformed, or whose versions are not from 1 to the number given.
 pub fn find_span(text: &[u8], symbol: &[u8], versions: usize) -> Result<Option<Span>, TimesFault>
@@ -55,7 +55,7 @@ fn first_span(text: &[u8], versions: usize) -> Option<(&[u8], Span, &[u8])>
     Some((name, span, rest))
 }
 
-/// The bytes before the first byte of a kind, and the bytes after it.
+/// The bytes before the first byte with a value, and the bytes after it.
 fn before_byte(text: &[u8], byte: u8) -> Option<(&[u8], &[u8])>
     ensures { IfSome result (λ it. length it.1.now < length text.now) }
 {

@@ -7,7 +7,7 @@ ghost use Rattle.nms_times.specs.Clock.{clock_at, clock_number, earlier_by, is_c
 use nms_units::parse_digits;
 use std::marker::Model;
 
-/// A time of day, 00:00:00 to 23:59:59.999999999, as the number whose 15 digits are HHMMSSnnnnnnnnn: 93000000000001 is a
+/// A time of day from 00:00:00 to 23:59:59.999999999. It is the number whose 15 digits are HHMMSSnnnnnnnnn: 93000000000001 is a
 /// nanosecond after 09:30:00. A later time has a greater number. There is no leap second and no zone.
 #[derive(Clone, Copy, Debug, PartialEq, Eq, PartialOrd, Ord)]
 pub struct TimeOfDay {
@@ -29,7 +29,7 @@ impl Model for TimeOfDay {
 }
 
 impl TimeOfDay {
-    /// The time of such a number, `None` if its hours, minutes or seconds are out of range.
+    /// The time of such a number; `None` if its hours, minutes or seconds are out of range.
     pub fn new(digits: u64) -> Option<Self>
         ensures { SomeIff result (is_clock digits ≡ true) digits }
     {
@@ -58,7 +58,7 @@ impl TimeOfDay {
         }
     }
 
-    /// The nanoseconds since midnight.
+    /// The time n nanoseconds before it, on the same day: midnight at the earliest.
     pub fn since_midnight(self) -> u64
         ensures nanoseconds { result ≡ since_midnight self }
         ensures high { result < 86400000000000 }
@@ -81,7 +81,7 @@ impl TimeOfDay {
         }
     }
 
-    /// The time n nanoseconds after it, of the same day: its last nanosecond at the latest.
+    /// The time n nanoseconds after it, on the same day: the day's last nanosecond at the latest.
     pub fn later_by(self, nanoseconds: u64) -> Self
         ensures { result ≡ later_by nanoseconds self }
     {
@@ -120,7 +120,7 @@ impl TimeOfDay {
     }
 }
 
-/// The nanoseconds of a day.
+/// Nanoseconds in a day.
 const DAY: u64 = 86_400_000_000_000;
 
 /// The time n nanoseconds after midnight.

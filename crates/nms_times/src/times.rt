@@ -10,7 +10,7 @@ use crate::time_of_day::TimeOfDay;
 use crate::times_fault::TimesFault;
 use std::marker::Model;
 
-/// The times of the changes of a tape, in order: one for each change. They may fall, as between the symbols of a file
+/// The times of the changes of a tape, in order: one for each change. They may fall, for example between the symbols of a file
 /// sorted by symbol.
 #[derive(Drop)]
 pub struct Times {
@@ -26,21 +26,21 @@ impl Model for Times {
 }
 
 impl Times {
-    /// These times.
+    /// The times of a list.
     pub(crate) fn of(all: Vec<TimeOfDay>) -> Self
         ensures { result ≡ all.items }
     {
         Times { all }
     }
 
-    /// The number of times: the version after the last change.
+    /// The number of times, which is the version after the last change.
     pub fn len(&self) -> usize
         ensures { result ≡ length self.now }
     {
         self.all.len()
     }
 
-    /// `OtherLength` if there are not as many as changes.
+    /// `OtherLength` if the number of times is not that of the changes.
     pub fn check_len(&self, changes: usize) -> Result<(), TimesFault>
         ensures same { IfOk result (λ _. length self.now ≡ changes) }
         ensures other { IfErr result (λ fault. (fault ≡ OtherLength) × (length self.now ≢ changes)) }
@@ -52,7 +52,7 @@ impl Times {
         }
     }
 
-    /// The time of a version, that of its last change. Version 0 and versions past the times have none.
+    /// The time of a version, which is that of its last change. Version 0 and versions past the times have none.
     pub fn time_of(&self, version: u64) -> Option<TimeOfDay>
         ensures { result ≡ time_of self.now version }
     {
@@ -62,7 +62,7 @@ impl Times {
         Some(self.all[version as usize - 1])
     }
 
-    /// All of them, to find versions. `TimesFall` if one is before the one above it.
+    /// All times, by which versions are found. `TimesFall` if one is before the one above it.
     pub fn rising(&self) -> Result<Rising<'_>, TimesFault>
         ensures same { IfOk result (λ rising. (rising.before ≡ 0) × (rising.times.now ≡ self.now)) }
         ensures falls { IfErr result (IsFall self.now 0) }
@@ -70,8 +70,8 @@ impl Times {
         rising_after(0, &self.all)
     }
 
-    /// The times of the changes after one version up to another, as of one symbol. `TimesFall` if one is before the one
-    /// above it.
+    /// The times of the changes after one version up to another, for example of one symbol. `TimesFall` if one is before the
+    /// one above it.
     pub fn rising_between(&self, before: usize, last: usize) -> Result<Rising<'_>, TimesFault>
         requires order { before ≤ last }
         requires within { last ≤ length self.now }
@@ -99,7 +99,7 @@ fn rising_after(before: usize, times: &[TimeOfDay]) -> Result<Rising<'_>, TimesF
     }
 }
 
-/// The first place where a time is before the time to its left.
+/// The first place at which a time is before the previous one.
 fn first_fall(times: &[TimeOfDay]) -> Option<usize>
     ensures { MatchOption result (IsNonDecreasing times.now) (FallsAt times.now) }
 {

@@ -9,22 +9,22 @@ use thiserror::Error;
 /// Why times were not read, or no version was found.
 #[derive(Clone, Copy, Debug, PartialEq, Eq, Error)]
 pub enum TimesFault {
-    /// H1: this line, from 1, is the first that is not 15 digits of a time of day and a line feed, or these with a
-    /// comma and 15 digits between; or its length is not the first line's.
+    /// H1: this line, counted from 1, is the first that is not a time: 15 digits of a time of day and a line feed, or these
+    /// with a comma and 15 digits between. Or its length is not that of the first line.
     NotTime { line: u64 },
-    /// H2: the time of this line, from 1, is the first before that of the line above it.
+    /// H2: the time of this line, counted from 1, is the first that is before that of the line above it.
     TimesFall { line: u64 },
-    /// H3: there are not as many lines as changes.
+    /// H3: the number of lines is not that of the changes.
     OtherLength,
-    /// H4: this line, from 1, is the first of the symbols that is not a name and two versions, the first not above the
-    /// last.
+    /// H4: this line, counted from 1, is the first of the symbols that is malformed. A line is a name and two versions, of
+    /// which the first is not above the last.
     NotSymbol { line: u64 },
     /// E4: out of memory.
     NoMemory,
 }
 
 impl TimesFault {
-    /// The line of the fault, from 1, if it has one.
+    /// The line of the fault, counted from 1, if it has one.
     pub fn line(self) -> Option<u64>
         ensures { result ≡ line_of self }
     {

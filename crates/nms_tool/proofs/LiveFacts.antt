@@ -1,4 +1,4 @@
--- A live run that was made, and its written result, whole or in part.
+-- A live run that was made, and its written result, all of it or a part.
 use Rattle.std.proofs.Common.{ℕ, ◌≡◌, List, length, refl, subst}
 use Rattle.std.specs.Prelude.{◌≢◌, Option, Result, Ok, Err, IfErr, IfOk}
 use Rattle.std.specs.Io.KnownBytes.{Appends, append_known}

@@ -1,4 +1,4 @@
--- What the words ask for was done, from what they came to before a live run to the exit status.
+-- What the arguments ask for was done, from what they came to before a live run to the exit status.
 use Rattle.std.proofs.Common.{ℕ, ◌≡◌, ◌∙◌, List, inl, inr, refl, sym, subst}
 use Rattle.std.specs.Prelude.{Option, Result, Ok, Err, IfErr, IfOk}
 use Rattle.nms_fees.specs.Settings.{Settings}

@@ -1,4 +1,4 @@
--- What the words ask for was done: a request of any subcommand, or help. No contract says what a file holds, so these say that
+-- What the arguments ask for was done: a request of any subcommand, or help. No contract says what a file holds, so these say that
 -- some bytes exist for which it is true. This product's own rule.
 use Rattle.std.specs.Prelude.{ℕ, ◌≡◌, ◌⊎◌, List, Option, Some, length}
 use Rattle.std.specs.Io.KnownBytes.{Appends}
@@ -44,7 +44,7 @@ Does sub.Live settings asked input old new ends = (ends ≡ ending.Done) × Runs
 abbrev pub IsServed : Asked → Option (List ℕ) → Option (List ℕ) → Option (List ℕ) → Ending → Type 0
 IsServed asked input old new ends = (settings : Settings) × IsSetup settings × Does asked.command settings asked input old new ends
 
--- what the words ask for was done: the request that they are, or help was shown
+-- what the arguments ask for was done: the request that they are, or help was shown
 abbrev pub AreServed : List (List ℕ) → Option (List ℕ) → Option (List ℕ) → Option (List ℕ) → Ending → Type 0
 AreServed words input old new ends =
     ((asked : Asked) × (asked_by words ≡ Some asked) × IsServed asked input old new ends) ⊎ ((ends ≡ ending.Done) × ShowsHelp words old new)

@@ -1,4 +1,4 @@
-//! The subcommand `live`: the feeds, the tape and the desks at once, each in a thread of its own.
+//! The subcommand `live`: the feeds, the tape and the desks run at the same time, each in its own thread.
 ghost use Rattle.std.specs.Prelude.{◌≡◌, ◌<◌, All, IfErr, IfOk, length};
 ghost use Rattle.nms_command.specs.LiveFiles.{AreOrdersOfSome};
 ghost use Rattle.nms_tool.specs.Failed.{StopsRun};
@@ -14,7 +14,7 @@ use std::io::Write;
 use std::sync::Wait;
 use std::thread::Threads;
 
-/// Runs the feeds with the orders, and writes the tape's length and each order's plan on the whole tape, with its certificate.
+/// Runs the feeds with the orders, and writes the tape's length and each order's plan on the complete tape, with its certificate.
 pub(crate) fn serve_live<T: AllocGlobal + Threads + Wait + Sync, W: Write>(
     rt: &T,
     setup: &Setup,

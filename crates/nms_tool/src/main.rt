@@ -1,4 +1,4 @@
-//! The program: the quote board's command line on the process's own words, files and streams.
+//! The program: the quote board's command line on the arguments, files and streams of the process.
 #![tactic(auto)]
 
 mod living;
@@ -15,7 +15,7 @@ use std::sync::Wait;
 use std::thread::Threads;
 pub use tool_fault::ToolFault;
 
-/// Bytes of the stack that are taken at the start.
+/// How many bytes of the stack are taken at the start.
 const STACK: usize = 114_688;
 
 fn main(rt: HostRuntime) -> ExitCode {
@@ -28,8 +28,8 @@ fn main(rt: HostRuntime) -> ExitCode {
 }
 
 /// Takes the stack that a call needs while there is memory for it. Later it might not grow, and the system would end the
-/// program, instead of the program saying that it is out of memory. The byte is 0 or 1: it is read so that the compiler keeps
-/// the array.
+/// program, before it could report that it is out of memory. The byte is 0 or 1. It is read so that the compiler keeps the
+/// array.
 #[inline(never)]
 fn take_stack(count: usize) -> u8 {
     let mut room = [0u8; STACK];
@@ -37,7 +37,7 @@ fn take_stack(count: usize) -> u8 {
     room[count / 2 % STACK]
 }
 
-/// Runs the command line on the process's own words and streams.
+/// Runs the command line on the arguments and streams of the process.
 fn answer_words<T, E: Write>(rt: &T, errors: &mut E) -> Result<u8, ToolFault>
 where
     T: AllocGlobal + Env + Files + Input + Print + Threads + Wait + Sync,
@@ -50,7 +50,7 @@ where
     Ok(answer(rt, &words, errors))
 }
 
-/// Runs the command line on these words and the process's own streams.
+/// Runs the command line on the given arguments and the streams of the process.
 fn answer<T, E: Write>(rt: &T, words: &[&str], errors: &mut E) -> u8
 where
     T: AllocGlobal + Files + Input + Print + Threads + Wait + Sync,

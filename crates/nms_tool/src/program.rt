@@ -1,4 +1,4 @@
-//! The program's use of its words, its streams and its files (specs/Served).
+//! How the program uses its arguments, its streams and its files (specs/Served).
 ghost use Rattle.std.specs.Prelude.{◌≡◌, ◌≢◌, ◌⊎◌, ◌<◌, IfErr, IfOk, OnErr, OnOk, map};
 ghost use Rattle.std.specs.Io.KnownBytes.{Appends};
 ghost use Rattle.nms_lines.specs.Written.{AppendsPart};
@@ -15,12 +15,12 @@ use std::rt::Files;
 use std::sync::Wait;
 use std::thread::Threads;
 
-/// Does what the words ask for, with the script on `input`, and gives the exit status.
+/// Does what the arguments ask for, with the script on `input`, and gives the exit status.
 ///
-/// Answers and help go to `answers`; the text of a parser's fault, or one line `nms_tool: CODE`, to `errors`. Status 0 says
-/// that the words' request was done; for a plan, that it is confirmed. Status 4 says that a plan was judged and is not
-/// confirmed. Any other says that it failed. Then `answers` got the answers to a script's first records; of any other request
-/// nothing or, if the writer failed, a prefix.
+/// Answers and help go to `answers`. The text of a parser's fault, or one line `nms_tool: CODE`, goes to `errors`. Status 0
+/// means that what the arguments ask for was done; a plan that was asked about is confirmed. Status 4 means that a plan was
+/// judged and is not confirmed. Any other status means that it failed. Then `answers` got the answers to a script's first
+/// records. For any other request it got nothing, or a prefix if the writer failed.
 pub fn run_tool<T, R: Read + Drop, W: Write, E: Write>(
     rt: &T,
     words: &[&str],
@@ -42,8 +42,8 @@ where
     }
 }
 
-/// Reports a fault, and gives its exit status. If standard error takes less than the whole, the status stays. What it takes is
-/// a prefix of the parser's text, or of the one line with the code, and nothing else.
+/// Reports a fault, and gives its exit status. If standard error does not take all of it, the status is the same. What it takes
+/// is only a prefix of the parser's text, or of the one line with the code.
 pub fn tell_fault<E: Write>(fault: &ToolFault, errors: &mut E) -> u8
     ensures status { result ≡ status_of fault.now }
     ensures told { AppendsPart (E.contents errors.old) (E.contents errors.new) (fault_text fault.now) }
@@ -67,7 +67,7 @@ fn write_fault<E: Write>(fault: &ToolFault, errors: &mut E) -> io::Result<()>
     }
 }
 
-/// Does what the words ask for: all but a live run is done by `serve_words`.
+/// Does what the arguments ask for. Everything but a live run is done by `serve_words`.
 fn serve<T, R: Read, W: Write>(
     rt: &T,
     words: &[&str],

@@ -9,9 +9,9 @@ use nms_text::TextFault;
 /// Why the program ends with a status other than 0.
 #[derive(Drop)]
 pub enum ToolFault {
-    /// The words, the setup, a file of a live run, or a subcommand other than `live` failed.
+    /// The arguments, the setup, a file of a live run, or a subcommand other than `live` failed.
     Command(CommandFault),
-    /// A live run gave nothing.
+    /// A live run gave no result.
     Live(LiveFault),
     /// The result of a live run was not written.
     LiveText(TextFault),
@@ -29,8 +29,8 @@ impl From<CommandFault> for ToolFault {
 }
 
 impl ToolFault {
-    /// The exit status: 1 for streams and files, 2 for words, 3 for the setup, 5 for memory, 6 for lines,
-    /// plans and lengths, 7 for a live run.
+    /// The exit status: 1 for streams and files, 2 for arguments, 3 for the setup, 5 for memory, 6 for lines, plans and
+    /// lengths, 7 for a live run.
     pub fn status(&self) -> u8
         ensures { result ≡ status_of self.now }
     {

@@ -51,7 +51,7 @@ number_in-decimal most n some small wide =
 no_point : (c : ℕ) → is_ascii_digit c ≡ true → (c == 46) ≡ false
 no_point c h = grind (arith, nat_tests)
 
--- the first point stands after the digits before it
+-- the first point is after the digits before it
 point_behind : (whole behind : List ℕ) → list_all is_ascii_digit whole ≡ true
     → position_or_len (λ c. c == 46) (whole ++ 46 ∷ behind) ≡ length whole
 point_behind [] behind h = refl

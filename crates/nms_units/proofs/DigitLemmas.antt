@@ -10,7 +10,7 @@ use Rattle.std.specs.List.{list_all}
 use Rattle.std.specs.Str.Parse.{digits_value}
 use Rattle.nms_units.specs.Digits.{number_in}
 
--- if the length is right, the digits alone decide
+-- if the length is right, only the digits decide
 number_by_digits : (most : ℕ) (text : List ℕ) → 0 < length text → length text ≤ most
     → number_in most text ≡ (if list_all is_ascii_digit text then Some (digits_value 10 text) else None)
 number_by_digits most text some within =

@@ -4,7 +4,7 @@ use Rattle.std.proofs.Math.Nat.{mod-add-div, mod-lt, mul-le-mul_left, mul-le-mul
 use Rattle.std.proofs.lemmas.Nat.{div-mul-add}
 use Rattle.nms_units.specs.Lot.{reciprocal_of}
 
--- the product, taken apart: `lot` times `part` and one more than `rest` are `whole`, and `q` lots and `s` shares are `n`
+-- the product in parts: `lot` times `part` and one more than `rest` are `whole`, and `q` lots and `s` shares are `n`
 product : (whole lot part rest n q s : ℕ) → whole ≡ part * lot + (rest + 1) → n ≡ q * lot + s
     → part * (n + 1) + q * (rest + 1) ≡ q * whole + part * (s + 1)
 product whole lot part rest n q s is_whole is_n = rw (is_whole, is_n) (omega arith)

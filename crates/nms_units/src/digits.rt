@@ -1,10 +1,9 @@
-//! Numbers in decimal digits, and the point between them: `specs/Digits`.
+//! Reading numbers in decimal digits, and the point between them: `specs/Digits`.
 ghost use Rattle.std.specs.Prelude.{◌≡◌, ℕ, ◌^◌, ◌<◌, ◌≤◌, Some, IfSome, OnSome, length};
 ghost use Rattle.std.specs.Fmt.{decimal};
 ghost use Rattle.nms_units.specs.Digits.{number_in, point_in};
 
-/// The number that a text of 1 to `most` decimal digits writes, with leading zeros allowed, or `None` if it is another
-/// text.
+/// The number that a text of 1 to `most` decimal digits gives, with leading zeros allowed; `None` for another text.
 pub fn parse_digits(text: &[u8], most: usize) -> Option<u64>
     requires { most ≤ 19 }
     ensures number { result ≡ number_in most text.now }
@@ -25,7 +24,7 @@ pub fn parse_digits(text: &[u8], most: usize) -> Option<u64>
     Some(number)
 }
 
-/// A law: a number of at most `most` digits, as it is printed, is read by `parse_digits` as that number.
+/// A law: a number of at most `most` digits, as it is printed, is read by `parse_digits` as the same number.
 pub fn digits_read_as_printed()
     ensures { (most n : ℕ) → 0 < most → n < 10 ^ most → n < 10 ^ 64 → number_in most (decimal n) ≡ Some n }
 {}

@@ -13,7 +13,7 @@ use std::marker::Model;
 #[derive(Clone, Copy, PartialEq, Eq, PartialOrd, Ord)]
 pub struct Lot {
     shares: u16,
-    /// 2^64 - 1 divided by the shares: a size is rounded down to whole lots by it, with no division.
+    /// 2^64 - 1 divided by the shares. By it a size is rounded down to whole lots without a division.
     reciprocal: u64,
 }
 
@@ -32,7 +32,7 @@ impl Model for Lot {
 }
 
 impl Lot {
-    /// A lot of `shares`, or `None` if that is not 1 to `MOST_LOT`.
+    /// A lot of `shares`; `None` if that is not 1 to `MOST_LOT`.
     pub fn new(shares: u16) -> Option<Self>
         ensures { SomeIff result ((1 ≤ shares) × (shares ≤ MOST_LOT)) shares }
     {
@@ -77,7 +77,7 @@ impl Lot {
         self.shares
     }
 
-    /// The displayed size of a side in shares: its message's shares, rounded down to whole lots. Each change and each
+    /// The displayed size of a side in shares, which is its message's shares, rounded down to whole lots. Each change and each
     /// row of a look computes it.
     pub fn displayed(self, shares: Shares) -> u32
         ensures size { result ≡ displayed_size self shares }
@@ -90,7 +90,7 @@ impl Lot {
 }
 
 impl fmt::Debug for Lot {
-    /// The shares alone, as `Lot { shares: 100 }`: the reciprocal follows from them.
+    /// Writes only the shares, as `Lot { shares: 100 }`, because the reciprocal follows from them.
     fn fmt<W: fmt::Write>(&self, f: &mut fmt::Formatter<W>) -> fmt::Result {
         f.debug_struct("Lot").field("shares", &self.shares).finish()
     }

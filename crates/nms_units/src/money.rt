@@ -68,14 +68,14 @@ impl Money {
         Ok(Money::new(nanodollars))
     }
 
-    /// A law: money strictly between -10^20 and 10^20 dollars, as `Display` prints it, is read by `parse` as that money.
+    /// A law: money strictly between -10^20 and 10^20 dollars, as `Display` prints it, is read by `parse` as the same money.
     pub fn reads_what_it_prints()
         ensures { (money : ℤ) → neg_ℤ (pos (10 ^ 29)) <ℤ money → money <ℤ pos (10 ^ 29)
             → money_reading (money_text money) ≡ Ok money }
     {}
 }
 
-/// The nanodollars that a text of money's form writes.
+/// The nanodollars that a text in money's form gives.
 fn signed_amount_in(text: &[u8]) -> Option<i128>
     ensures { result ≡ money_number text.now }
 {
@@ -91,7 +91,7 @@ fn signed_amount_in(text: &[u8]) -> Option<i128>
     }
 }
 
-/// The nanodollars that 1 to 20 digits, a point and nine digits write.
+/// The nanodollars that 1 to 20 digits, a point and nine digits give.
 fn amount_in(text: &[u8]) -> Option<u128>
     ensures number { result ≡ amount_number text.now }
     ensures high { IfSome result (λ n. n < 10 ^ 29) }
@@ -100,7 +100,7 @@ fn amount_in(text: &[u8]) -> Option<u128>
     nanodollars_in(&text[..point], &text[point + 1..])
 }
 
-/// The nanodollars that the digits on both sides of the point write.
+/// The nanodollars that the digits on both sides of the point give.
 fn nanodollars_in(whole: &[u8], behind: &[u8]) -> Option<u128>
     ensures number { result ≡ nanodollars whole.now behind.now }
     ensures high { IfSome result (λ n. n < 10 ^ 29) }
@@ -110,7 +110,7 @@ fn nanodollars_in(whole: &[u8], behind: &[u8]) -> Option<u128>
     Some(whole + u128::from(behind))
 }
 
-/// The nanodollars that 1 to 20 digits write as dollars.
+/// The nanodollars that 1 to 20 digits give as dollars.
 fn whole_dollars_in(text: &[u8]) -> Option<u128>
     ensures number { result ≡ whole_dollars text.now }
     ensures high { IfSome result (λ n. n ≤ 99999999999999999999000000000) }
@@ -119,7 +119,7 @@ fn whole_dollars_in(text: &[u8]) -> Option<u128>
     Some(number * 1_000_000_000)
 }
 
-/// The number that nine digits write.
+/// The number that nine digits give.
 fn nine_decimals_in(text: &[u8]) -> Option<u64>
     ensures number { result ≡ nine_decimals text.now }
     ensures high { IfSome result (λ n. n ≤ 999999999) }
@@ -131,7 +131,7 @@ fn nine_decimals_in(text: &[u8]) -> Option<u64>
     }
 }
 
-/// The number that 1 to 20 digits write. A twentieth digit is read apart, since the number may not fit 64 bits.
+/// The number that 1 to 20 digits give. A twentieth digit is read separately, because the number may not fit 64 bits.
 fn twenty_digits_in(text: &[u8]) -> Option<u128>
     ensures number { result ≡ number_in 20 text.now }
     ensures high { IfSome result (λ n. n < 10 ^ 20) }
@@ -163,7 +163,7 @@ impl fmt::Display for ThreeDigits {
 impl fmt::Display for Money {
     ghost output = { λ m. Some (money_text m) };
 
-    /// A minus if negative, dollars with nine decimals, and no leading zeros except one before the point.
+    /// Writes a minus if negative, and dollars with nine decimals. There are no leading zeros except one before the point.
     fn fmt<W: fmt::Write>(&self, f: &mut fmt::Formatter<W>) -> fmt::Result {
         let sign = if self.get() < 0 { "-" } else { "" };
         let amount = self.get().unsigned_abs();

@@ -32,7 +32,7 @@ impl Model for Price {
 }
 
 impl Price {
-    /// The price of a number of 1/10,000 dollar, or `None` if it is 0 or above `MOST_PRICE`.
+    /// The price of a number of 1/10,000 dollar; `None` if it is 0 or above `MOST_PRICE`.
     pub fn new(ten_thousandths: u64) -> Option<Self>
         ensures { SomeIff result ((1 ≤ ten_thousandths) × (ten_thousandths ≤ MOST_PRICE)) ten_thousandths }
     {
@@ -54,7 +54,7 @@ impl Price {
 
     /// Reads 1 to 7 digits, and at most a point with 1 to 4 digits after it, as dollars.
     ///
-    /// Leading zeros are accepted. Any other text is `BadPrice`; a zero price is `ZeroPrice`.
+    /// Leading zeros are accepted. Any other text is `BadPrice`. A zero price is `ZeroPrice`.
     pub fn parse(text: &[u8]) -> Result<Self, UnitFault>
         ensures { result ≡ price_reading text.now }
     {
@@ -62,13 +62,13 @@ impl Price {
         Price::new(number).ok_or(UnitFault::ZeroPrice)
     }
 
-    /// A law: a price, as `Display` prints it, is read by `parse` as that price.
+    /// A law: a price, as `Display` prints it, is read by `parse` as the same price.
     pub fn reads_what_it_prints()
         ensures { (price : ℕ) → 1 ≤ price → price ≤ MOST_PRICE → price_reading (price_text price) ≡ Ok price }
     {}
 }
 
-/// The number of 1/10,000 dollar that a text of a price's form writes; it may be zero. Most prices are in cents.
+/// The number of 1/10,000 dollar that a text in a price's form gives; it may be zero. Most prices are in cents.
 fn ten_thousandths_in(text: &[u8]) -> Option<u64>
     ensures number { result ≡ price_number text.now }
     ensures high { IfSome result (λ n. n ≤ MOST_PRICE) }
@@ -79,7 +79,7 @@ fn ten_thousandths_in(text: &[u8]) -> Option<u64>
     }
 }
 
-/// The number of 1/10,000 dollar that digits, a point and two digits write.
+/// The number of 1/10,000 dollar that digits, a point and two digits give.
 fn cents_in(text: &[u8]) -> Option<u64>
     ensures number { OnSome result (result ≡ price_number text.now) }
     ensures high { IfSome result (λ n. n ≤ MOST_PRICE) }
@@ -111,7 +111,7 @@ fn any_decimals_in(text: &[u8]) -> Option<u64>
     }
 }
 
-/// The number of 1/10,000 dollar that 1 to 7 digits write as dollars.
+/// The number of 1/10,000 dollar that 1 to 7 digits give as dollars.
 fn dollars_in(text: &[u8]) -> Option<u64>
     ensures number { result ≡ dollars text.now }
     ensures high { IfSome result (λ n. n ≤ 99999990000) }
@@ -120,7 +120,7 @@ fn dollars_in(text: &[u8]) -> Option<u64>
     Some(number * 10_000)
 }
 
-/// The number of 1/10,000 dollar that 1 to 4 digits write after the point.
+/// The number of 1/10,000 dollar that 1 to 4 digits give after the point.
 fn decimals_in(text: &[u8]) -> Option<u64>
     ensures number { result ≡ decimals text.now }
     ensures high { IfSome result (λ n. n ≤ 9999) }
@@ -132,7 +132,7 @@ fn decimals_in(text: &[u8]) -> Option<u64>
 impl fmt::Display for Price {
     ghost output = { λ p. Some (price_text p) };
 
-    /// Dollars with four decimals, and no leading zeros except one before the point.
+    /// Writes dollars with four decimals. There are no leading zeros except one before the point.
     #[tactic(auto, using(std::proofs::lemmas::Fmt::decimal_digit))]
     fn fmt<W: fmt::Write>(&self, f: &mut fmt::Formatter<W>) -> fmt::Result {
         let number = self.ten_thousandths;

@@ -28,7 +28,7 @@ impl Model for Shares {
 }
 
 impl Shares {
-    /// `count` shares, or `None` if that is more than `MOST_SHARES`.
+    /// `count` shares; `None` if that is more than `MOST_SHARES`.
     pub fn new(count: u32) -> Option<Self>
         ensures { SomeIff result (count ≤ MOST_SHARES) count }
     {

@@ -33,7 +33,7 @@ none-step : {X : Type 0} (p : X → Bool) (xs : List X) (i : ℕ) (d : X) → li
 none-step p xs i d none below (inl holds) = absurd (both_ways (list_any p xs) none (list_any_at p xs i d below holds))
 none-step p xs i d none below (inr fails) = fails
 
--- if no element passes, one that stands there does not
+-- if no element passes, one that is there does not
 pub none-at : {X : Type 0} (p : X → Bool) (xs : List X) (i : ℕ) (x : X) → list_any p xs ≡ false → i < length xs → x ≡ get_or xs i x
     → p x ≡ false
 none-at p xs i x none below is = ap p is ∙ none-step p xs i x none below (cases_Bool (p (get_or xs i x)))

@@ -56,7 +56,7 @@ abbrev pub cuts_doubt_of : Seen → Terms → Charges → Plan → List Cut → 
 cuts_doubt_of seen order fees plan cuts =
     cuts_doubt order.side (usable seen order fees) (fillable (usable seen order fees) order.shares) plan.cost cuts
 
--- the condition of each doubt of a plan: a breach is the one reported, and a doubt of the cuts is of the cuts alone
+-- the condition of each doubt of a plan: a breach is the one reported, and a doubt of the cuts is only of the cuts
 abbrev pub DoubtHolds : Seen → Terms → Charges → Plan → List Cut → Doubt → Type 0
 DoubtHolds seen order fees plan cuts (doubt.Breach why) = breach_of seen order fees plan ≡ Some why
 DoubtHolds seen order fees plan cuts doubt.NotMost = not (plan.filled == fillable (usable seen order fees) order.shares) ≡ true

@@ -46,7 +46,7 @@ pub not-false : (b : Bool) → not b ≡ false → b ≡ true
 not-false true e = refl
 not-false false e = absurd (false≢true (sym e))
 
--- what a search after an element finds stands after it
+-- what a search after an element finds is after it
 pub behind-at : {X : Type 0} (p : X → Bool) (xs : List X) (i at : ℕ) (d : X) → position p (drop (i + 1) xs) ≡ Some at
     → p (get_or xs (i + 1 + at) d) ≡ true
 behind-at p xs i at d found =

@@ -70,7 +70,7 @@ first_comma (suc k) (byte ∷ more) within none comma =
     rw here (ap (λ (rest : List ℕ). byte ∷ rest) (first_comma k more (omega (arith, within))
     (λ j low high. none (suc j) (omega arith) (omega (arith, high))) comma))
 
--- without one it is the whole
+-- without one it is all of it
 pub no_comma : (text : List ℕ) → Nowhere (Passes (is_byte 44) text) 0 (length text) → text ≡ before_comma text
 no_comma [] none = refl
 no_comma (byte ∷ more) none =

@@ -38,7 +38,7 @@ pub at_inner : (text : List ℕ) (start end : ℕ) (begun : Option Begun) → If
 at_inner text start end None before order = refl
 at_inner text start end (Some it) before order = part_join text it.start start end before order
 
--- of one that has begun
+-- the same for one that has begun
 pub at_blank : (text : List ℕ) (start end : ℕ) (begun : Option Begun) → IfSome begun (λ it. it.start ≤ start) → start ≤ end
     → option_map (λ before. before ++ slice_range text start end) (begun_text text start begun) ≡ begun_text text end begun
 at_blank text start end None before order = refl

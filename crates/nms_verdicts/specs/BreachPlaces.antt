@@ -1,5 +1,5 @@
--- Where a breach stands in a plan, what was found there and what was expected. Each place follows from the breach's own
--- condition (`Breach` of `nms_rules`). This product's own rule, after 17 CFR 242.600, "trade-through", and 242.611(b)(1).
+-- The place of a breach in a plan, what was found there and what was expected. Each place follows from the breach's condition
+-- (`Breach` of `nms_rules`). This product's own rule, after 17 CFR 242.600, "trade-through", and 242.611(b)(1).
 use Rattle.std.specs.Prelude.{ℕ, ◌≡◌, ◌≢◌, ◌<◌, All, Any, true, false, List, filter, map, slice_index_or}
 use Rattle.nms_quote.specs.Terms.{Terms}
 use Rattle.nms_quote.specs.declared.order.OrderSide.{OrderSide}

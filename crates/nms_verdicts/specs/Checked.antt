@@ -57,7 +57,7 @@ IsOutcome settings tape text outcome.Confirmed = IsConfirmed settings tape text
 IsOutcome settings tape text outcome.Doubted = IsDoubted settings tape text
 IsOutcome settings tape text outcome.Unreadable = IsUnreadable settings text
 
--- of a plan and its cuts
+-- the outcome for a plan and its cuts
 abbrev pub IsOutcomeOf : Settings → Tape → Plan → List Cut → Outcome → Type 0
 IsOutcomeOf settings tape plan cuts outcome.Confirmed = EndsBy settings tape plan cuts ending.Done
 IsOutcomeOf settings tape plan cuts outcome.Doubted = EndsBy settings tape plan cuts ending.Doubted

@@ -1,5 +1,5 @@
--- Where a doubt stands in a plan or its certificate, what was found there and what was expected. Each place follows from the
--- doubt's own condition (`Doubts` of `nms_cert`). This product's own rule.
+-- The place of a doubt in a plan or its certificate, what was found there and what was expected. Each place follows from the
+-- doubt's condition (`Doubts` of `nms_cert`). This product's own rule.
 use Rattle.std.specs.Prelude.{ℕ, ℤ, ⊤, ◌≡◌, ◌≢◌, ◌+◌, ◌<◌, true, false, not, List, Some, drop, position, slice_get, slice_index_or}
 use Rattle.std.specs.Int.RustNames.{int_lt}
 use Rattle.std.specs.List.{find}

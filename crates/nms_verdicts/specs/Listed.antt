@@ -27,7 +27,7 @@ listed_on seen plan = ranked (contra plan.order.side) (contra_rows plan.order.si
 abbrev pub listed_by : Verdict → Seen → Plan → List Row
 listed_by judged seen plan = if is_beyond judged then [] else listed_on seen plan
 
--- what is said of a plan lists them, of the plan's own version of the changes
+-- the remarks about a plan list them, for the plan's version of the changes
 pub record AreListed (settings : Settings) (tape : Tape) (plan : Plan) (said : Said) : Type 0 where
   pub beyond : said.is_beyond ≡ nat_lt (length tape) plan.version
   pub rows : map (λ quotation. quotation.row) said.quotations.items

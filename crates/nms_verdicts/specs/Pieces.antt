@@ -1,4 +1,4 @@
--- The pieces of a text of answers: the texts of plans, and what stands in the place of one. This product's own rule.
+-- The pieces of a text of answers: the texts of plans, and what is there instead of one. This product's own rule.
 use Rattle.std.specs.Prelude.{ℕ, ◌≡◌, suc, ◌-◌, ◌==◌, ◌++◌, ◌∷◌, ◌&&◌, ◌||◌, [], All, Bool, List, Option, Some, None, true, false, codes}
 use Rattle.std.specs.Prelude.{length}
 use Rattle.std.specs.Prelude.{if◌then◌else◌, map, not, option_map, option_to_list, take, unwrap_or}
@@ -50,16 +50,16 @@ kind_of_word word =
     else (if is_text (codes "CUT") word then kind.Inner
     else (if is_text (codes "END") word then kind.End else kind.Other)))
 
--- of a line that begins with no quote
+-- the kind of a line that begins with no quote
 abbrev pub plain_kind : List ℕ → Kind
 plain_kind line = if length (trimmed line) == 0 then kind.Blank else kind_of_word (before_comma (trimmed line))
 
--- of a line that is read as records
+-- the kind of a line that is read as records
 abbrev pub kind_of_records : List Record → Kind
 kind_of_records [] = kind.Other
 kind_of_records (fields ∷ more) = kind_of_word (trimmed (field fields 0))
 
--- the kind of a line, by its first field; if that may stand in quotes, by what the reader of records reads
+-- the kind of a line, by its first field; if that may be in quotes, by what the reader of records reads
 pub record IsKind (line : List ℕ) (is : Kind) : Type 0 where
   pub plain : begins_with 34 line ≡ false → is ≡ plain_kind line
   pub quoted : begins_with 34 line ≡ true → (records : List Record) → AreAllRecords (Some line) records → is ≡ kind_of_records records

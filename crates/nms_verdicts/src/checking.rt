@@ -1,4 +1,4 @@
-//! The plans of a file of answers, each judged on its own version: `specs/Checked`.
+//! Judging the plans of a file of answers, each on its own version: `specs/Checked`.
 ghost use Rattle.std.specs.Prelude.{◌≡◌, ◌<◌, ◌+◌, ◌^◌, ◌-◌, ℕ, IfOk, List};
 ghost use Rattle.csv.specs.Reading.{strip_bom};
 ghost use Rattle.nms_verdicts.specs.Begun.{texts_of};
@@ -84,14 +84,14 @@ pub(crate) struct Counts {
 }
 
 /// Judges every plan in the answers of a script or of a live run, each on its own version of the changes. Writes a table of
-/// verdicts and a line of totals, or an object a plan as JSON. The order is by version, those of one version as they stand, and
+/// verdicts and a line of totals, or an object a plan as JSON. The order is by version, within a version as in the file, and
 /// last those that can't be read.
 ///
-/// With times, which must be as many as the changes, each plan has that of its version.
+/// If times are given, their number must be that of the changes, and each plan has that of its version.
 ///
-/// The changes are read whole, and go over the board once. It searches the answers for records `PLAN` to `END`, and skips all
-/// else. Text in the place of a plan is reported as L11. `Doubted` if a plan is doubted, else `Refused` if one can't be read,
-/// else `Done`. Nothing is flushed.
+/// All changes are read, and applied to the board once. The answers are searched for records `PLAN` to `END`, and all else is
+/// skipped. A text that is there instead of a plan is reported as L11. `Doubted` if a plan is doubted, else `Refused` if one
+/// can't be read, else `Done`. Nothing is flushed.
 pub fn check_answers<R: Read + Drop, W: Write>(
     alloc: Global,
     setup: &Setup,
@@ -183,7 +183,7 @@ fn check_each<W: Write>(
     Ok(counts)
 }
 
-/// The counts with one more.
+/// The counts with one more outcome.
 fn counted(counts: Counts, outcome: Outcome) -> Counts
     requires { counts.confirmed + counts.doubted + counts.unreadable < 2 ^ 64 - 1 }
     ensures { result ≡ counted counts outcome }
@@ -289,7 +289,7 @@ fn write_head<W: Write>(
     tell_head(answers, form, headings)
 }
 
-/// Writes that a plan's text is none.
+/// Writes that the text of a plan can't be read.
 fn write_unreadable<W: Write>(
     alloc: Global,
     answers: &mut W,

@@ -1,4 +1,4 @@
-//! The cuts of a certificate, each with its bound beside the plan's cost.
+//! The cuts of a certificate, each with its bound next to the plan's cost.
 ghost use Rattle.std.specs.Prelude.{◌≤◌, length};
 
 use crate::finding::marginal_of;
@@ -12,10 +12,10 @@ use nms_units::{MOST_SHARES, Money};
 use std::alloc::Global;
 use std::io::Write;
 
-/// The most that a marginal may be, in nanodollars, and the least with a minus.
+/// The most that a marginal may be, in nanodollars. The least is its negative.
 const MOST_MARGINAL: i128 = 1_000_000_000_000_000_000;
 
-/// Reports what each cut says, if n shares can be filled.
+/// Reports the claim of each cut, if n shares can be filled.
 pub(crate) fn tell_cuts<W: Write>(
     alloc: Global,
     answers: &mut W,
@@ -36,7 +36,7 @@ pub(crate) fn tell_cuts<W: Write>(
     Ok(())
 }
 
-/// Reports what one cut says of the rows that the order may trade with at its price. Beyond the limit it also counts the
+/// Reports what one cut claims about the rows that the order may trade with at its price. Beyond the limit it also counts the
 /// protected ones at better prices, which would have to be swept there.
 fn tell_reached<W: Write>(
     alloc: Global,
@@ -71,7 +71,7 @@ fn tell_reached<W: Write>(
     )
 }
 
-/// Reports what one cut says: the sums at its price, and the least that a plan with that worst price costs by its marginal.
+/// Reports what one cut claims: the sums at its price, and the least cost of a plan with that worst price by its marginal.
 fn tell_cut<W: Write>(
     alloc: Global,
     answers: &mut W,
@@ -118,8 +118,8 @@ fn tell_cut<W: Write>(
     )
 }
 
-/// The least that a plan with this worst price costs by a cut's marginal: if it has one in its range, and at most as many
-/// shares must be swept as can be filled.
+/// The least cost of a plan with this worst price by a cut's marginal. There is one if the marginal is in its range, and the
+/// shares to be swept are no more than can be filled.
 fn bound_of(rows: &[UsableRow], most: u64, cutoff: Rank, kind: CutKind) -> Option<Money>
     requires rows { length rows.now ≤ MOST_ROWS }
     requires most { most ≤ MOST_SHARES }

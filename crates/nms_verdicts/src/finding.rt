@@ -1,16 +1,16 @@
-//! What was found at the place of a doubt, what was expected, and the words for it.
+//! The finding at the place of a doubt, what was expected, and the words for it.
 use crate::names::name_of;
 use crate::plan_places::{BreachPlace, CutPlace, CutSums, DoubtPlace, LegPlace, PassedOver};
 use crate::verdict::Verdict;
 use nms_quote::{CutKind, Order, Plan, Roster};
 use nms_show::Item;
 
-/// The place of a doubt, what was found there, what was expected, and the lines that say it.
+/// The place of a doubt, what was found there, what was expected, and the lines about it.
 #[derive(Clone, Copy)]
 pub(crate) struct Finding<'a> {
     /// The line that names the leg or the cut.
     pub(crate) place: &'static str,
-    /// The line that says what is doubtful of it.
+    /// The line about what is doubtful there.
     pub(crate) words: &'static str,
     /// The leg, counted from 1.
     pub(crate) leg: Item<'static>,
@@ -18,7 +18,7 @@ pub(crate) struct Finding<'a> {
     pub(crate) cut: Item<'static>,
     /// The shares of the leg.
     pub(crate) sent: Item<'static>,
-    /// Where the leg goes.
+    /// The participant to which the leg goes.
     pub(crate) participant: Item<'a>,
     /// The price of the leg or of the cut.
     pub(crate) price: Item<'static>,
@@ -30,7 +30,7 @@ pub(crate) struct Finding<'a> {
     pub(crate) other: Item<'a>,
 }
 
-/// What a verdict on a plan finds.
+/// The finding of a verdict on a plan.
 pub(crate) fn finding_of<'a>(verdict: &Verdict, roster: &'a Roster, plan: &Plan) -> Finding<'a> {
     match verdict {
         Verdict::Confirmed => of_plan("", Item::Absent, Item::Absent),
@@ -43,7 +43,7 @@ pub(crate) fn finding_of<'a>(verdict: &Verdict, roster: &'a Roster, plan: &Plan)
     }
 }
 
-/// What is found at the place of a doubt.
+/// The finding at the place of a doubt.
 fn of_doubt<'a>(place: &DoubtPlace, roster: &'a Roster, order: &Order) -> Finding<'a> {
     match place {
         DoubtPlace::Breach(place) => of_breach(place, roster, order),
@@ -91,7 +91,7 @@ fn of_doubt<'a>(place: &DoubtPlace, roster: &'a Roster, order: &Order) -> Findin
     }
 }
 
-/// What is found of a cut that contradicts the sums at its price.
+/// The finding about a cut that contradicts the sums at its price.
 fn of_kind(cut: &CutPlace, sums: &CutSums) -> Finding<'static> {
     let (words, found) = match cut.cut.kind {
         CutKind::TooMuch => (
@@ -110,7 +110,7 @@ fn of_kind(cut: &CutPlace, sums: &CutSums) -> Finding<'static> {
     of_cut(cut, words, found, Item::Number(sums.most))
 }
 
-/// The shares that have to be swept or may be taken.
+/// The number of shares that have to be swept or may be taken.
 fn reached_by(sums: &CutSums) -> Item<'static> {
     match sums.swept.checked_add(sums.pool) {
         Some(shares) => Item::Number(shares),
@@ -118,7 +118,7 @@ fn reached_by(sums: &CutSums) -> Item<'static> {
     }
 }
 
-/// What is found at the place of a breach.
+/// The finding at the place of a breach.
 fn of_breach<'a>(place: &BreachPlace, roster: &'a Roster, order: &Order) -> Finding<'a> {
     match place {
         BreachPlace::OtherVersion { found, expected } => of_plan(
@@ -200,7 +200,7 @@ fn of_breach<'a>(place: &BreachPlace, roster: &'a Roster, order: &Order) -> Find
     }
 }
 
-/// Why an order may not trade with what a leg goes to.
+/// Why an order may not trade with the quotation to which a leg goes.
 fn why_none(order: &Order, leg: &LegPlace) -> &'static str {
     match &leg.quotation {
         None => "      no |contra| of that participant stands there",
@@ -229,7 +229,7 @@ fn shares_in(place: &LegPlace) -> Item<'static> {
     Item::Number(u64::from(place.leg.shares.get()))
 }
 
-/// The price of the quotation that a leg goes to.
+/// The price of the quotation to which a leg goes.
 fn quoted_price(place: &LegPlace) -> Item<'static> {
     match &place.quotation {
         Some(row) => Item::of_price(row.price),
@@ -237,7 +237,7 @@ fn quoted_price(place: &LegPlace) -> Item<'static> {
     }
 }
 
-/// The displayed size of the quotation that a leg goes to.
+/// The displayed size of the quotation to which a leg goes.
 fn displayed(place: &LegPlace) -> Item<'static> {
     match &place.quotation {
         Some(row) => Item::Number(u64::from(row.size)),
@@ -258,7 +258,7 @@ fn number_of(place: u8) -> Item<'static> {
     Item::Number(u64::from(place) + 1)
 }
 
-/// Of the plan as a whole.
+/// A finding about the plan as such.
 fn of_plan(words: &'static str, found: Item<'static>, expected: Item<'static>) -> Finding<'static> {
     Finding {
         place: "",
@@ -274,7 +274,7 @@ fn of_plan(words: &'static str, found: Item<'static>, expected: Item<'static>) -
     }
 }
 
-/// Of a leg.
+/// A finding about a leg.
 fn of_leg<'a>(
     roster: &'a Roster,
     place: &LegPlace,
@@ -296,7 +296,7 @@ fn of_leg<'a>(
     }
 }
 
-/// Of a cut.
+/// A finding about a cut.
 fn of_cut(
     place: &CutPlace,
     words: &'static str,
@@ -317,7 +317,7 @@ fn of_cut(
     }
 }
 
-/// The same, of which the words name another leg or cut, or a participant.
+/// The same finding, whose words also name another leg or cut, or a participant.
 fn with_other<'a>(finding: Finding<'a>, other: Item<'a>) -> Finding<'a> {
     Finding { other, ..finding }
 }

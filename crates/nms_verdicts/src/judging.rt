@@ -1,4 +1,4 @@
-//! Plans judged on the versions that they name, by one board that is moved forward: `specs/Verdicts`.
+//! Judging plans on the versions that they name, by one board that moves forward: `specs/Verdicts`.
 ghost use Rattle.std.specs.Prelude.{◌≡◌, false};
 ghost use Rattle.nms_verdicts.specs.Listed.{is_beyond};
 ghost use Rattle.nms_verdicts.specs.Verdicts.{IsVerdict, IsVerdictOn};
@@ -11,8 +11,8 @@ use nms_fees::FeeBook;
 use nms_quote::{Certificate, Plan};
 use nms_stream::Replay;
 
-/// Judges a plan on the version that it names, to which the board is moved, as `audit` of `nms_file_answers` does, and returns the
-/// place of its doubt.
+/// Judges a plan on the version that it names, to which the board has moved, as `audit` of `nms_file_answers` does. Returns the
+/// place of its doubt too.
 pub(crate) fn judge(replay: &mut Replay<'_>, plan: &Plan, certificate: &Certificate) -> Verdict
     ensures tape { replay.new.tape ≡ replay.old.tape }
     ensures moved { is_beyond result ≡ false → replay.new.board.applied ≡ plan.now.version }
@@ -34,7 +34,7 @@ fn judge_on(fees: &FeeBook, view: &View, plan: &Plan, certificate: &Certificate)
     match confirm(view, &plan.order, fees, plan, certificate) {
         Ok(()) => Verdict::Confirmed,
         Err(doubt) => {
-            // Copied before it is passed on: the borrow checker treats a passed value as moved.
+            // The doubt is copied before it is passed on, because the borrow checker treats a passed value as moved.
             let told = doubt;
             let place = doubt_place(view, &plan.order, plan, fees, certificate, doubt);
             Verdict::Doubted { doubt: told, place }

@@ -1,5 +1,5 @@
-//! The reports on plans: a verdict on each plan of the answers of a script or of a live run, and why a plan is, or is not, the
-//! best lawful one.
+//! Reports on plans. There is a verdict on each plan of the answers of a script or of a live run. Another report says why a
+//! plan is, or is not, the best lawful one.
 #![tactic(auto)]
 
 mod checking;

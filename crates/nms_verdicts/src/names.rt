@@ -29,7 +29,7 @@ pub(crate) fn verb_of(side: OrderSide) -> Item<'static> {
     }
 }
 
-/// The words for what an order trades with.
+/// The words for the quotations with which an order trades.
 pub(crate) fn quotation_of(side: OrderSide) -> Item<'static> {
     match side {
         OrderSide::Buy => Item::Text("offer"),

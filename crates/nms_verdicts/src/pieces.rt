@@ -1,4 +1,4 @@
-//! The texts of plans among other records, by version: `specs/Pieces`.
+//! Finding the texts of plans among other records, by version: `specs/Pieces`.
 ghost use Rattle.std.specs.Prelude.{◌≡◌, ◌<◌, ◌≤◌, ◌++◌, ℕ, IfOk, IfSome, IsPermutation, List, OnOk, Option, Some, length, option_to_list};
 ghost use Rattle.std.specs.List.{slice_range};
 ghost use Rattle.std.specs.List.Sorted.{IsNonDecreasingBy};
@@ -14,31 +14,31 @@ use nms_lines::{ByteRecord, field_at, open_records, read_next, read_plan};
 use nms_quote::Roster;
 use std::alloc::{AllocError, Global};
 
-/// What kind a line of answers is.
+/// The kind of a line of answers.
 #[derive(Clone, Copy)]
 pub(crate) enum Kind {
-    /// It begins a plan.
+    /// The line begins a plan.
     Plan,
-    /// It is of a plan.
+    /// The line is within a plan.
     Inner,
-    /// It ends a plan.
+    /// The line ends a plan.
     End,
-    /// It is blank.
+    /// The line is blank.
     Blank,
-    /// It is of none.
+    /// The line belongs to no plan.
     Other,
 }
 
-/// The text of a plan, or the text in the place of one.
+/// The text of a plan, or the text that is there instead of one.
 #[derive(Clone, Copy)]
 pub(crate) struct Piece<'a> {
-    /// Its bytes, from the record that begins it to the one that ends it.
+    /// The bytes from the record that begins it to the one that ends it.
     pub(crate) text: &'a [u8],
-    /// Which plan of the answers it is, counted from 1.
+    /// The number of the plan among the answers, counted from 1.
     pub(crate) plan: u64,
     /// Its first line, counted from 1.
     pub(crate) line: u64,
-    /// The version that it names; if it can't be read, a number above all versions.
+    /// The version that it names. If it can't be read, it is a number above all versions.
     pub(crate) version: u64,
 }
 
@@ -51,19 +51,19 @@ pub(crate) struct Begun {
     line: u64,
 }
 
-/// Where a line of a text is.
+/// The place of a line in a text.
 #[derive(Clone, Copy)]
 struct Place {
-    /// Where it begins.
+    /// The byte at which it begins.
     start: usize,
-    /// Where it ends.
+    /// The byte at which it ends.
     end: usize,
-    /// Which line it is, counted from 1.
+    /// Its number, counted from 1.
     line: u64,
 }
 
-/// The pieces of a text of answers, by version, those of one version as they stand. A record of a plan without the record that
-/// begins a plan gives a piece too, so that no plan is missed.
+/// The pieces of a text of answers, by version, and within a version as in the text. A record of a plan without the record that
+/// begins a plan also gives a piece, so that no plan is missed.
 pub(crate) fn pieces_of<'a>(
     alloc: Global,
     roster: &Roster,
@@ -108,7 +108,7 @@ fn push_pieces<'a>(
     let mut line: u64 = 0;
     while start < text.len() {
         let end = start + line_length(&text[start..]);
-        // Each line has a byte or more, so there are no more lines than bytes.
+        // The count is never too great, because each line has at least one byte.
         line += 1;
         let place = Place { start, end, line };
         let kind = kind_of(alloc, &text[start..end])?;
@@ -119,7 +119,7 @@ fn push_pieces<'a>(
     Ok(())
 }
 
-/// Appends the piece that ends before a line or with it. Returns the one that has begun then: a piece begins at a record of a
+/// Appends the piece that ends before a line or with it. Returns the piece that has begun then. A piece begins at a record of a
 /// plan.
 fn push_line<'a>(
     pieces: &mut Vec<Piece<'a>>,
@@ -203,7 +203,7 @@ fn push_piece<'a>(
     Ok(())
 }
 
-/// The version that the text of a plan names; if it can't be read, a number above all versions.
+/// The version that the text of a plan names. If it can't be read, it is a number above all versions.
 fn version_of(alloc: Global, roster: &Roster, text: &[u8]) -> u64 {
     match read_plan(alloc, text, roster) {
         Ok((plan, _)) => plan.version,
@@ -224,7 +224,7 @@ fn line_length(text: &[u8]) -> usize
     }
 }
 
-/// How many bytes the end of a line takes, which a text begins with.
+/// How many bytes the end of a line takes at the beginning of a text.
 fn end_length(text: &[u8]) -> usize
     requires { IsEnd text.now }
     ensures some { 0 < result }
@@ -237,8 +237,8 @@ fn end_length(text: &[u8]) -> usize
     }
 }
 
-/// What a line is, by its first field. That may stand in quotes: then it is what the reader of records reads of the line. A
-/// record of a plan takes one line, since none of its fields may have a line end.
+/// The kind of a line, by its first field. If that is in quotes, it is what the reader of records reads. A record of a plan
+/// takes one line, because none of its fields may have a line end.
 fn kind_of(alloc: Global, line: &[u8]) -> Result<Kind, AllocError>
     ensures { IfOk result (IsKind line.now) }
 {
@@ -258,7 +258,7 @@ fn begins_with_quote(line: &[u8]) -> bool
     }
 }
 
-/// What a line is if it does not begin with a quote.
+/// The kind of a line that does not begin with a quote.
 fn kind_of_plain(line: &[u8]) -> Kind
     ensures { result ≡ plain_kind line.now }
 {
@@ -276,7 +276,7 @@ fn trimmed(text: &[u8]) -> &[u8]
     text.trim_ascii_end()
 }
 
-/// What stands before the first comma.
+/// The text before the first comma.
 fn first_field(line: &[u8]) -> &[u8]
     ensures { result.now ≡ before_comma line.now }
 {
@@ -286,7 +286,7 @@ fn first_field(line: &[u8]) -> &[u8]
     }
 }
 
-/// What a line is if it begins with a quote.
+/// The kind of a line that begins with a quote.
 fn kind_of_quoted(alloc: Global, line: &[u8]) -> Result<Kind, AllocError>
     ensures { (records : List Record) → AreAllRecords (Some line.now) records → IfOk result (λ kind. kind ≡ kind_of_records records) }
 {
@@ -295,12 +295,12 @@ fn kind_of_quoted(alloc: Global, line: &[u8]) -> Result<Kind, AllocError>
     match read_next(&mut reader, &mut row) {
         Ok(true) => Ok(kind_of_word(trimmed(field_at(&row, 0)))),
         Ok(false) => Ok(Kind::Other),
-        // The bytes are there to read, so memory ran out.
+        // The bytes can be read, so the reason is out of memory.
         Err(_) => Err(AllocError),
     }
 }
 
-/// What a line is if it begins with a word.
+/// The kind of a line that begins with a word.
 fn kind_of_word(word: &[u8]) -> Kind
     ensures { result ≡ kind_of_word word.now }
 {

@@ -1,4 +1,4 @@
-//! Where a breach or a doubt stands in a plan: its leg or its cut, what was found there and what was expected.
+//! The place of a breach or a doubt in a plan: its leg or its cut, what was found there and what was expected.
 mod breach_places;
 mod cut_place;
 mod cut_tests;

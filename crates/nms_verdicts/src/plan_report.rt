@@ -1,4 +1,4 @@
-//! A plan with its verdict, for a page: its quotations, and what is said of it.
+//! A plan with its verdict, for a page: its quotations, and the remarks about it.
 ghost use Rattle.std.specs.Prelude.{◌≡◌, [], IfOk, OnOk, map};
 ghost use Rattle.nms_verdicts.specs.Explained.{EndsBy, ending_of};
 ghost use Rattle.nms_verdicts.specs.Listed.{AreListed, is_beyond, listed_by, listed_on};
@@ -33,28 +33,28 @@ pub struct Quotation {
     pub note: Note,
 }
 
-/// The verdict on a plan, and what is said of it.
+/// The verdict on a plan, and the remarks about it.
 #[derive(Drop)]
 pub struct Said {
-    /// `Done` if it is confirmed, else `Doubted`.
+    /// `Done` if the plan is confirmed, else `Doubted`.
     pub ending: Ending,
-    /// Whether its version has more changes than there are.
+    /// Whether the plan's version has more changes than there are.
     pub is_beyond: bool,
     /// The word of its verdict, with the codes of what is doubtful.
     pub verdict: Vec<u8>,
-    /// The lines on its order and on what it fills.
+    /// The lines about its order and about the shares that it fills.
     pub order: Vec<u8>,
-    /// The lines on what is doubtful.
+    /// The lines about what is doubtful.
     pub doubt: Vec<u8>,
-    /// The lines on the most shares that can be filled, and on each cut of its certificate.
+    /// The lines about the most shares that can be filled, and about each cut of its certificate.
     pub certificate: Vec<u8>,
     /// The quotations, in rank order; none if the changes do not have its version.
     pub quotations: Vec<Quotation>,
 }
 
-/// Judges a plan on the version that it names, as `explain_why` does, and says the same of it. `file` is what the lines call it.
+/// Judges a plan on the version that it names, as `explain_why` does, and makes the same remarks. The lines call it by `file`.
 ///
-/// The only fault is that no board was made, or out of memory.
+/// The only faults are that no board was made, or out of memory.
 pub fn report_plan(
     alloc: Global,
     tape: &Tape<'_>,
@@ -85,12 +85,12 @@ pub fn report_plan(
         &verdict,
     ) {
         Ok(said) => Ok(said),
-        // A list of bytes takes all that is written, if there is memory.
+        // This is out of memory, because a list of bytes takes everything that is written.
         Err(_) => Err(BoardFault::NoMemory),
     }
 }
 
-/// A verdict on a plan, and what is said of it.
+/// A verdict on a plan, and the remarks about it.
 pub(crate) fn said_of(
     alloc: Global,
     setup: &Setup,
@@ -128,7 +128,7 @@ pub(crate) fn said_of(
     }
 }
 
-/// Adds what is said of a plan.
+/// Adds the remarks about a plan.
 fn say_all(
     alloc: Global,
     setup: &Setup,
@@ -187,7 +187,7 @@ fn say_all(
     )
 }
 
-/// Reports what is said of a plan, each line as an object.
+/// Reports the remarks about a plan, each line as an object.
 pub(crate) fn tell_said<W: Write>(
     alloc: Global,
     answers: &mut W,
@@ -199,8 +199,8 @@ pub(crate) fn tell_said<W: Write>(
     tell_lines(alloc, answers, form, "certificate", &said.certificate)
 }
 
-/// Reports the lines of a text, without the spaces that they begin with. They have their escapes already: so they are words of
-/// the program's own, which are neither escaped again nor cut.
+/// Reports the lines of a text, without the spaces at their beginning. They already have their escapes, so they count as texts
+/// of the program, which are neither escaped again nor cut.
 fn tell_lines<'x, W: Write>(
     alloc: Global,
     answers: &mut W,
@@ -242,7 +242,7 @@ fn add_verdict(out: &mut Vec<u8>, verdict: &Verdict) -> Result<(), AllocError> {
     Ok(())
 }
 
-/// Adds the quotations on the side that a plan's order trades with, in rank order, to none.
+/// Adds the quotations on the side that a plan's order trades with, in rank order, to an empty list.
 fn add_quotations(
     view: &View,
     plan: &Plan,

@@ -1,4 +1,4 @@
-//! A plan with its verdict.
+//! Reporting a plan with its verdict.
 use crate::finding::{Finding, finding_of};
 use crate::names::{code_item, name_of, push_named, quotation_of, symbol_of, verb_of};
 use crate::plan_places::{BreachPlace, DoubtPlace, PassedOver};
@@ -10,12 +10,12 @@ use nms_times::Times;
 use std::alloc::{AllocError, Global};
 use std::io::Write;
 
-/// Which plan of which file it is, and the line that it begins at.
+/// The file of a plan, its number there, and the line at which it begins.
 #[derive(Clone, Copy)]
 pub(crate) struct PlanNumber<'a> {
     /// The file.
     pub(crate) file: &'a str,
-    /// Which plan of it, counted from 1.
+    /// Its number in the file, counted from 1.
     pub(crate) plan: u64,
     /// Its first line, counted from 1.
     pub(crate) line: u64,
@@ -23,18 +23,18 @@ pub(crate) struct PlanNumber<'a> {
     pub(crate) times: Option<&'a Times>,
 }
 
-/// Which lines are written of a plan and its verdict.
+/// Which lines about a plan and its verdict are written.
 #[derive(Clone, Copy)]
 pub(crate) enum Part {
-    /// All of them.
+    /// All lines.
     Whole,
-    /// Those on its order, and how much it fills.
+    /// The lines about its order, and how much it fills.
     Order,
-    /// Those on what is doubtful.
+    /// The lines about what is doubtful.
     Doubt,
 }
 
-/// Reports a plan and its verdict: as a row under headings with the doubt, or without headings as sentences.
+/// Reports a plan and its verdict. With headings it is a row with the doubt, without headings it is sentences.
 pub(crate) fn tell_plan<W: Write>(
     alloc: Global,
     answers: &mut W,
@@ -55,7 +55,7 @@ pub(crate) fn tell_plan<W: Write>(
     )
 }
 
-/// Reports lines of a plan and its verdict.
+/// Reports some of the lines about a plan and its verdict.
 pub(crate) fn tell_part<W: Write>(
     alloc: Global,
     answers: &mut W,
@@ -120,7 +120,7 @@ fn tell_named<'x, W: Write>(
         Part::Order => (0, 4),
         Part::Doubt => (5, 7),
     };
-    // Without times there is no key for one.
+    // Without times there is no key for a time.
     let known = if number.times.is_some() { 26 } else { 25 };
     tell(
         alloc,
@@ -152,7 +152,7 @@ fn time_item(digits: &[u8]) -> Item<'_> {
     }
 }
 
-/// The facts reported on a plan and its verdict.
+/// The facts that are reported about a plan and its verdict.
 fn facts_of<'a>(
     roster: &'a Roster,
     number: PlanNumber<'a>,
@@ -202,7 +202,7 @@ fn word_of(verdict: &Verdict) -> Item<'static> {
     }
 }
 
-/// The sentences on a plan's order, on the shares it fills, and its verdict.
+/// The sentences about a plan's order, the shares that it fills, and its verdict.
 fn sentences_of(plan: &Plan, verdict: &Verdict) -> [&'static str; 4] {
     [
         if plan.order.manual {
@@ -257,7 +257,7 @@ fn tell_passed<W: Write>(
     Ok(())
 }
 
-/// Reports the legs of a plan, only as objects: people see in the table of quotations what is sent where.
+/// Reports the legs of a plan, only as objects, because people see in the table of quotations what is sent where.
 pub(crate) fn tell_legs<W: Write>(
     alloc: Global,
     answers: &mut W,

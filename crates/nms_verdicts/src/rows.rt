@@ -23,8 +23,8 @@ const HEADINGS: [Heading; 7] = [
     Heading("", "note", 0, false),
 ];
 
-/// Reports the quotations on the side that a plan's order trades with, best first: what a share costs at each with the
-/// fee, whether it is protected, and what the plan sends there.
+/// Reports the quotations on the side that a plan's order trades with, best first. It shows the cost of a share at each with
+/// the fee, whether it is protected, and how many shares the plan sends there.
 pub(crate) fn tell_rows<W: Write>(
     alloc: Global,
     answers: &mut W,
@@ -98,9 +98,9 @@ pub(crate) fn sent_to(legs: &[Leg], part: Part) -> u64
 /// What a plan does with a quotation.
 #[derive(Clone, Copy)]
 pub enum Note {
-    /// It has to be swept, and is.
+    /// It has to be swept, and is swept.
     Swept,
-    /// It has to be swept, and is not.
+    /// It has to be swept, but is not.
     NotSwept,
     /// All of it is taken.
     TakenInFull,
@@ -108,16 +108,16 @@ pub enum Note {
     TakenInPart,
     /// Nothing of it is taken.
     Left,
-    /// The order may not trade with it: its price is beyond the limit.
+    /// The order may not trade with it, because its price is beyond the limit.
     BeyondLimit,
-    /// The order may not trade with it: self-help was declared.
+    /// The order may not trade with it, because self-help was declared.
     SelfHelp,
-    /// The order may not trade with it: it is manual.
+    /// The order may not trade with it, because it is manual.
     Manual,
 }
 
 impl Note {
-    /// Its words.
+    /// The words for the note.
     pub fn words(self) -> &'static str {
         match self {
             Note::Swept => "must be swept, and is",
@@ -132,7 +132,7 @@ impl Note {
     }
 }
 
-/// What a plan that sends n shares to a quotation does with it.
+/// The note on a quotation to which a plan sends n shares.
 pub(crate) fn note_of(plan: &Plan, row: &Row, sent: u64) -> Note {
     if !is_usable(&plan.order, row) {
         return why_unusable(plan, row);
@@ -148,7 +148,7 @@ pub(crate) fn note_of(plan: &Plan, row: &Row, sent: u64) -> Note {
     }
 }
 
-/// Whether some leg has a worse price than this one.
+/// Whether some leg has a worse price than the given one.
 fn trades_beyond(side: OrderSide, legs: &[Leg], price: Price) -> bool {
     legs.iter().any(|leg| is_better(side, price, leg.price))
 }

@@ -1,4 +1,4 @@
-//! One thing is reported: as a JSON object with all that is known of it, or as a row of a table and lines of words.
+//! Reporting one thing: as a JSON object with all that is known about it, or as a row of a table and lines of words.
 use nms_show::{Column, Form, Item, ShowFault, write_line, write_object, write_row};
 use std::alloc::Global;
 use std::io::Write;
@@ -9,8 +9,8 @@ const MOST_COLUMNS: usize = 16;
 /// The most texts and values of a line.
 const MOST_ITEMS: usize = 24;
 
-/// A column: its heading, the key of the fact in it, its least number of characters, and whether the fact stands at the
-/// column's right end.
+/// A column: its heading, the key of the fact in it, its least number of characters, and whether the fact is at the column's
+/// right end.
 #[derive(Clone, Copy)]
 pub(crate) struct Heading(
     pub(crate) &'static str,
@@ -19,7 +19,7 @@ pub(crate) struct Heading(
     pub(crate) bool,
 );
 
-/// Reports a thing: an object with these facts, or their row under these headings, if there are any, and these lines.
+/// Reports a thing. It is an object with these facts, or their row under these headings, if there are any, and these lines.
 pub(crate) fn tell<'a, W: Write>(
     alloc: Global,
     answers: &mut W,
@@ -40,7 +40,7 @@ pub(crate) fn tell<'a, W: Write>(
     Ok(())
 }
 
-/// Writes the head of a table; objects have none.
+/// Writes the head of a table. Objects have no head.
 pub(crate) fn tell_head<W: Write>(
     answers: &mut W,
     form: Form,
@@ -52,7 +52,7 @@ pub(crate) fn tell_head<W: Write>(
     tell_row(answers, form, headings, &[])
 }
 
-/// Writes the facts under headings; without facts their titles. After the last one the line ends.
+/// Writes the facts under headings, or the titles if there are no facts. After the last one the line ends.
 fn tell_row<W: Write>(
     answers: &mut W,
     form: Form,
@@ -79,7 +79,7 @@ fn tell_row<W: Write>(
     write_row(answers, form, columns.get(..used).unwrap_or(&columns))
 }
 
-/// The fact under a heading; without facts its title.
+/// The fact under a heading, or the title if there are no facts.
 fn column_of<'a>(heading: Heading, facts: &[(&str, Item<'a>)]) -> Column<'a> {
     let Heading(title, key, width, right) = heading;
     let item = if !facts.is_empty() {

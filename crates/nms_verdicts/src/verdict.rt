@@ -11,9 +11,9 @@ use nms_show::Ending;
 /// The result of judging a plan.
 #[derive(Drop)]
 pub(crate) enum Verdict {
-    /// It is lawful, no lawful plan fills more, and none that fills as much costs less.
+    /// The plan is lawful, no lawful plan fills more shares, and none fills as many for less.
     Confirmed,
-    /// A1: its version has more changes than the file.
+    /// A1: the plan's version has more changes than the file.
     Beyond {
         /// How many changes there are.
         changes: u64,
@@ -22,13 +22,13 @@ pub(crate) enum Verdict {
     Doubted {
         /// The doubt.
         doubt: Doubt,
-        /// Where it stands.
+        /// The place of the doubt.
         place: DoubtPlace,
     },
 }
 
 impl Verdict {
-    /// The code of what is doubtful.
+    /// The code of the doubt, or of a version beyond the file.
     pub(crate) fn code(&self) -> Option<&'static str> {
         match self {
             Verdict::Confirmed => None,
@@ -37,7 +37,7 @@ impl Verdict {
         }
     }
 
-    /// The code of the breach, if that is what is doubtful.
+    /// The code of the breach, if the doubt is a breach.
     pub(crate) fn breach(&self) -> Option<&'static str> {
         let Verdict::Doubted {
             doubt: Doubt::Breach(breach),
@@ -49,19 +49,19 @@ impl Verdict {
         Some(breach.code())
     }
 
-    /// Whether it is confirmed.
+    /// Whether the plan is confirmed.
     pub(crate) fn is_confirmed(&self) -> bool {
         matches!(self, Verdict::Confirmed)
     }
 
-    /// Whether its version has more changes than there are.
+    /// Whether the plan's version has more changes than there are.
     pub(crate) fn is_beyond(&self) -> bool
         ensures { result ≡ is_beyond self.now }
     {
         matches!(self, Verdict::Beyond { .. })
     }
 
-    /// How a request for it ends: done if it is confirmed, else doubted.
+    /// How a request for the verdict ends: done if the plan is confirmed, else doubted.
     pub(crate) fn ending(&self) -> Ending
         ensures { result ≡ ending_of self.now }
     {

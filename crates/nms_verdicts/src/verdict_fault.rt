@@ -11,7 +11,7 @@ use nms_times::TimesFault;
 use std::fmt;
 use thiserror::Error;
 
-/// Why plans were not judged, or not to the end.
+/// Why plans were not judged, or not all of them.
 #[derive(Clone, Copy, Debug, PartialEq, Eq, Error)]
 pub enum VerdictFault {
     /// The file of changes is no tape. Nothing was written.
@@ -23,7 +23,7 @@ pub enum VerdictFault {
     /// L11 or L12: the text is no plan, or there was no memory to read it. Among many plans, one that can't be read is reported
     /// as such and is no fault.
     Plan(PlanTextFault),
-    /// E2 or E4: the output could not be written, or memory ran out. A prefix of it may have been written.
+    /// E2 or E4: the output could not be written, or out of memory. A prefix of it may have been written.
     Show(ShowFault),
 }
 

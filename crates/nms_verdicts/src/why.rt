@@ -1,4 +1,4 @@
-//! Why a plan is, or is not, the best lawful one.
+//! Explaining why a plan is, or is not, the best lawful one.
 ghost use Rattle.std.specs.Prelude.{IfOk};
 ghost use Rattle.nms_verdicts.specs.Explained.{EndsBy, IsExplained, IsExplainedOn};
 
@@ -22,11 +22,11 @@ use std::alloc::Global;
 use std::io::{Read, Write};
 
 /// Explains why the plan of a text is, or is not, the best lawful one on its version of the changes. It shows the doubt first,
-/// then the quotations in rank order with what a share costs and what is sent there. Then it shows how many shares can be
-/// filled, and each cut's bound beside the plan's cost.
+/// then the quotations in rank order with the cost of a share and the shares that are sent there. Then it shows how many shares
+/// can be filled, and each cut's bound next to the plan's cost.
 ///
-/// `Doubted` if the plan is doubted, else `Done`. A text that is no plan is a fault. With times, which must be as many as the
-/// changes, it shows that of the plan's version too. Nothing is flushed.
+/// `Doubted` if the plan is doubted, else `Done`. A text that is no plan is a fault. If times are given, their number must be
+/// that of the changes, and the time of the plan's version is shown too. Nothing is flushed.
 pub fn explain_why<R: Read + Drop, W: Write>(
     alloc: Global,
     setup: &Setup,

@@ -16,7 +16,7 @@ changes-append (batch ∷ front) back = ap (λ t. batch ++ t) (changes-append fr
 pub prefix_changes : (front whole : Batches) → IsPrefix front whole → IsPrefix (changes front) (changes whole)
 prefix_changes front whole p = (changes p.0, sym (changes-append front p.0) ∙ ap changes p.1)
 
--- of two beginnings of batches, the one with fewer changes begins the other
+-- if two beginnings of batches begin one list, the one with fewer changes begins the other
 pub prefix_shorter : (xs ys zs : Batches) → IsPrefix xs zs → IsPrefix ys zs → NoneEmpty zs → length (changes xs) ≤ length (changes ys)
     → IsPrefix xs ys
 prefix_shorter [] ys zs p q some le = (ys, refl)
@@ -61,7 +61,7 @@ pub all_begin : (memory : List Batches) (longest new : Batches) → AllByRecursi
 all_begin [] longest new h p = tt
 all_begin (m ∷ memory) longest new h p = (prefix_changes m new (prefix_trans m longest new h.0 p), all_begin memory longest new h.1 p)
 
--- the changes of the first batches are as many as were published once
+-- the number of changes of the first batches was published once
 pub among : (front whole : Batches) (n : ℕ) → IsPrefix front whole → Contains (lengths_from n whole) (n + length (changes front))
 among [] [] n p = (0, omega arith, omega arith)
 among [] (batch ∷ whole) n p = (0, omega arith, omega arith)

@@ -12,7 +12,7 @@ prefix_trans xs ys zs p q = (p.0 ++ q.0, sym (append_assoc xs p.0 q.0) ∙ (ap (
 pub prefix_length : {X : Type 0} (xs ys : List X) → IsPrefix xs ys → length xs ≤ length ys
 prefix_length xs ys p = omega (arith, sym (ap length p.1) ∙ length-append xs p.0)
 
--- a beginning as long as the whole is the whole
+-- a beginning with the length of the list is the list
 pub prefix_whole : {X : Type 0} (xs ys : List X) → IsPrefix xs ys → length ys ≤ length xs → xs ≡ ys
 prefix_whole [] [] p le = refl
 prefix_whole [] (y ∷ ys) p le = absurd (omega arith)

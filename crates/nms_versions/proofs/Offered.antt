@@ -1,2 +1,2 @@
--- The lemmas of this crate that proofs of crates above it may cite. Its other lemmas are for this crate alone.
+-- The lemmas of this crate that proofs of crates above it may cite. Its other lemmas are only for this crate.
 pub use Rattle.nms_versions.proofs.Beginnings.{prefix_length}

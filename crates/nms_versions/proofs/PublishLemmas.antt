@@ -53,7 +53,7 @@ contains_push xs y n = (
     only zero within is = sym is
     only (suc k) within is = absurd (omega arith)
 
--- publishing adds the length of the whole tape to the publications, if it is not there yet
+-- publishing adds the length of the complete tape to the publications, if it is not there yet
 pub publications_push : (log : Batches) (pending : List Change) (n : ℕ)
     → Contains (publications (committed log pending)) n ↔ Contains (publications log) n ⊎ (n ≡ length (changes log ++ pending))
 publications_push log [] n =
@@ -67,7 +67,7 @@ publications_push log (change ∷ pending) n =
     subst (λ l. Contains l n ↔ Contains (publications log) n ⊎ (n ≡ length (changes log ++ batch))) (sym same)
     (contains_push (publications log) (length (changes log ++ batch)) n)
 
--- the version after publishing is the whole tape
+-- the version after publishing is the complete tape
 pub changes_committed : (log : Batches) (pending : List Change) → changes (committed log pending) ≡ changes log ++ pending
 changes_committed log [] = sym (append-nil (changes log))
 changes_committed log (change ∷ pending) = changes-push log (change ∷ pending)

@@ -49,7 +49,7 @@ shows seat known sealed next batch f is views kept at =
       refl,
     )
 
--- of nothing that is known, a shown board is
+-- a shown board is of nothing that is known
 knows_nothing : (shown : Sealed) → IsOf shown unnamed
 knows_nothing shown = record { book = λ named e. absurd (none-some named e); sizes = λ named e. absurd (none-some named e) }
 

@@ -1,4 +1,4 @@
--- The history of an opening, which exists in proofs alone: the batches that were published. This product's own rule.
+-- The history of an opening, which exists only in proofs: the batches that were published. This product's own rule.
 use Rattle.std.specs.Prelude.{ℕ, ◌≡◌, suc, Bool, true, false, List, [], ◌∷◌, ◌++◌, length, if◌then◌else◌}
 use Rattle.logbook.specs.Pages.{Book, Cell, Named, Nib, Step, View, nib, may_make, may_write}
 use Rattle.nms_quote.specs.declared.change.Change.{Change}

@@ -1,4 +1,4 @@
--- What a desk keeps of what it saw or was told of. This product's own rule.
+-- What a desk keeps about what it saw or learned of. This product's own rule.
 use Rattle.std.specs.Prelude.{ℕ, ◌≡◌, List, [], length, map, Option, Some, None}
 use Rattle.std.specs.List.{AllByRecursion}
 use Rattle.std.specs.declared.snapshot.Snapshot.{Snapshot}

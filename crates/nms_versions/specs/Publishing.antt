@@ -1,4 +1,4 @@
--- What a publisher keeps beside what it reports. This product's own rule.
+-- What a publisher keeps in addition to what it reports. This product's own rule.
 use Rattle.std.specs.Prelude.{ℕ, ◌≡◌, ◌<◌, ◌≤◌, true, List, [], ◌∷◌, ◌++◌, All, length}
 use Rattle.nms_quote.specs.Roster.{Sizes, holds}
 use Rattle.nms_quote.specs.declared.TheConstants.{MOST_CHANGES}

@@ -26,7 +26,7 @@ absorbed sealed batch = record { boards = fold after_taken sealed.boards (items_
 abbrev pub unnamed : Known
 unnamed = record { opening = None }
 
--- of the opening that is known, a shown board has the history and the sizes
+-- a shown board has the history and the sizes of the opening that is known
 pub record IsOf (sealed : Sealed) (known : Known) : Type 0 where
   pub book : (named : Snapshot Sealed) → known.opening ≡ Some named → named.value.seen.book ≡ sealed.seen.book
   pub sizes : (named : Snapshot Sealed) → known.opening ≡ Some named → named.value.boards.sizes ≡ sealed.boards.sizes

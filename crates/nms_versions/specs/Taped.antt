@@ -31,8 +31,7 @@ pub record Receipted : Type 0 where
   pub opening : Book
   pub published : Batches
 
--- a desk: which opening it is of, the roster's sizes, and the versions that it saw or was told of, the
--- last one first
+-- a desk: which opening it is of, the roster's sizes, and the versions that it saw or learned of, the last one first
 pub record Knowing : Type 0 where
   pub opening : Book
   pub sizes : Sizes

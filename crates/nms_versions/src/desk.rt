@@ -17,9 +17,9 @@ use nms_board::View;
 use nms_quote::Sym;
 use std::marker::Model;
 
-/// Looks at what is published, and never at a version older than one that it saw or was told of.
+/// Looks at what is published, and never at a version older than one that it saw or learned of.
 pub struct Desk {
-    /// A look takes it out and puts it back.
+    /// The reader of the pair. A look takes it out and puts it back.
     pub(crate) reader: Option<PairReader>,
     pub(crate) memory: Memory,
     /// The longest version that it knows, and how many changes that has.
@@ -27,7 +27,7 @@ pub struct Desk {
     pub(crate) longest: u64,
 }
 
-/// A `Drop` of its own: a function that holds one then has one call at each exit, and not one for each part (docs/GATE.md).
+/// It has its own `Drop`, so that a function that holds one has one call at each exit, and not one for each part (docs/GATE.md).
 impl Drop for Desk {
     fn drop(self) {
         let Desk {
@@ -55,7 +55,7 @@ impl Model for Desk {
 }
 
 impl Desk {
-    /// Learns the version of a receipt of its own opening. No look shows an older one from then on.
+    /// Learns the version of a receipt of its own opening. From then on no look shows an older one.
     pub fn learn(&mut self, receipt: Receipt)
         requires opening { receipt.opening ≡ self.old.opening }
         ensures { self.new ≡ record self.old { known = changes receipt.published ∷ self.old.known } }
@@ -71,8 +71,8 @@ impl Desk {
         self.newest = seen;
     }
 
-    /// What the published version shows of a symbol; no rows for a symbol out of the roster. Waits for nobody and takes
-    /// no memory. `NoReading` leaves the desk as it was.
+    /// What the published version shows for a symbol; no rows for a symbol that is not on the roster. It waits for no thread
+    /// and takes no memory. `NoReading` leaves the desk as it was.
     pub fn look(&mut self, sym: Sym) -> Result<View, NoReading>
         ensures shown { IfOk result (λ view. (version : Tape) × (view ≡ view_of self.old.sizes version sym)
             × AllBegin version self.old.known × (self.new ≡ record self.old { known = version ∷ self.old.known })) }
@@ -103,8 +103,8 @@ impl Desk {
         Ok(view)
     }
 
-    /// Ends the desk on a receipt of its own opening: each version that it knew begins the receipt's, and was
-    /// published. `Newer` if it knows a longer one than the receipt's; it comes back as it was.
+    /// Ends the desk on a receipt of its own opening: each version that it knew is a beginning of the receipt's, and was
+    /// published. `Newer` if it knows a longer version than the receipt's; then it comes back as it was.
     pub fn settle(self, receipt: Receipt) -> Result<Settled, Unsettled>
         requires opening { receipt.opening ≡ self.opening }
         ensures begins { OnOk result (AllBegin (changes receipt.published) self.known) }

@@ -1,4 +1,4 @@
-//! What was appended since the last publishing, in memory that is used again (specs/Fresh).
+//! The changes appended since the last publishing, in memory that is used again (specs/Fresh).
 ghost use Rattle.std.specs.Prelude.{◌≡◌, ◌<◌, ◌++◌, ◌∷◌, [], length, None, IfSome, MatchBool};
 ghost use Rattle.nms_versions.specs.Fresh.{items_in, items_of};
 
@@ -8,11 +8,11 @@ use std::alloc::Global;
 use std::marker::Model;
 use std::sync::Arc;
 
-/// The changes since the last publishing. Two buffers take turns: the pair of boards has the one of a publishing until
-/// the next publishing is done, since only then both boards have its changes.
+/// The changes since the last publishing. Two buffers take turns. The pair of boards has the buffer of a publishing until the
+/// next publishing is done, because only then both boards have its changes.
 #[derive(Drop)]
 pub struct Fresh {
-    /// What was appended since the last publishing. `None` if there is no buffer yet.
+    /// The changes appended since the last publishing. `None` if there is no buffer yet.
     filled: Option<Arc<Vec<Change>>>,
     /// The buffer of the last publishing, which the pair has too.
     lent: Option<Arc<Vec<Change>>>,
@@ -29,7 +29,7 @@ impl Model for Fresh {
 }
 
 impl Fresh {
-    /// No changes. It takes no memory.
+    /// An empty list of changes. It takes no memory.
     pub(crate) fn new() -> Self
         ensures { result ≡ [] }
     {
@@ -101,7 +101,7 @@ fn taken_or_new(alloc: Global, buffer: Option<Arc<Vec<Change>>>) -> Option<Arc<V
 fn put_behind(buffer: &mut Arc<Vec<Change>>, change: &Change) -> bool
     ensures { MatchBool result (items_of buffer.new ≡ items_of buffer.old ++ change.now ∷ []) (items_of buffer.new ≡ items_of buffer.old) }
 {
-    // Moving a change takes a mention of the types in it: the prover has to have seen them.
+    // The prover has to see the types in a change before the change moves, so the code mentions them.
     let _seen: (Option<SideQuote>, Option<Lot>) = (None, None);
     match Arc::get_mut(buffer) {
         Some(changes) => match changes.push(*change) {
@@ -112,7 +112,7 @@ fn put_behind(buffer: &mut Arc<Vec<Change>>, change: &Change) -> bool
     }
 }
 
-/// A buffer with nothing in it, unless somebody else has it.
+/// A buffer without content, unless another holder has it too.
 fn emptied(mut buffer: Arc<Vec<Change>>) -> Option<Arc<Vec<Change>>>
     ensures { IfSome result (λ empty. items_of empty ≡ []) }
 {

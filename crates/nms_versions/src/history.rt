@@ -1,5 +1,5 @@
-//! The history of an opening: the batches that were published (specs/History). It exists in proofs alone; at run time
-//! it is a word, which nothing but the publisher reaches.
+//! The history of an opening, which is the batches that were published (specs/History). It exists only in proofs. At run time
+//! it is a word that only the publisher reaches.
 ghost use Rattle.std.specs.Prelude.{◌≡◌, ◌<◌, ◌++◌, ◌∷◌, [], true, false, length, MatchBool};
 ghost use Rattle.nms_quote.specs.declared.TheConstants.{MOST_CHANGES};
 ghost use Rattle.nms_versions.specs.Fresh.{items_of};
@@ -34,7 +34,7 @@ impl Rule<LinkedList<Change>, u64> for OneHistory {
     ghost moves = { λ ask before after answer. Unit {0} };
 }
 
-/// A step trades nothing.
+/// The step trades nothing.
 pub struct Nothing;
 
 impl Gain<LinkedList<Change>, u64> for Nothing {
@@ -43,7 +43,7 @@ impl Gain<LinkedList<Change>, u64> for Nothing {
     ghost after = { λ names about answer. ftrue };
 }
 
-/// A batch is opened.
+/// The step opens a batch.
 pub struct Opening;
 
 impl Play<LinkedList<Change>, u64> for Opening {
@@ -52,7 +52,7 @@ impl Play<LinkedList<Change>, u64> for Opening {
     ghost then = { Opens };
 }
 
-/// The open batch is published.
+/// The step publishes the open batch.
 pub struct Closing;
 
 impl Play<LinkedList<Change>, u64> for Closing {
@@ -61,7 +61,7 @@ impl Play<LinkedList<Change>, u64> for Closing {
     ghost then = { Closes };
 }
 
-/// Opening asks for nothing.
+/// Opening requires nothing.
 impl Plain<u64, LinkedList<Change>, u64> for Opening {
     ghost use Rattle.std.specs.Prelude.{None, []};
 
@@ -70,7 +70,7 @@ impl Plain<u64, LinkedList<Change>, u64> for Opening {
     ghost state = { λ _. None };
 }
 
-/// Publishing asks for the batch.
+/// Publishing requires the batch.
 impl Plain<Arc<Vec<Change>>, LinkedList<Change>, u64> for Closing {
     ghost use Rattle.std.specs.Prelude.{None};
     ghost use Rattle.nms_versions.specs.Fresh.{items_of};
@@ -128,8 +128,8 @@ impl History {
         self.seen.again()
     }
 
-    /// Makes sure that a batch is open, and returns whether one is. None is if another holder opened one; there is no
-    /// other holder.
+    /// Makes sure that a batch is open, and returns whether one is. None is if another holder opened one, but there is no other
+    /// holder.
     pub(crate) fn be_open(&mut self) -> bool
         requires room { length self.old.published < MOST_CHANGES }
         ensures opened { MatchBool result (self.new ≡ record self.old { is_open = true }) (self.new ≡ self.old) }
@@ -161,7 +161,7 @@ impl History {
         true
     }
 
-    /// Publishes the open batch: these changes.
+    /// Publishes the open batch, which has these changes.
     pub(crate) fn close(&mut self, batch: &Arc<Vec<Change>>)
         requires open { self.old.is_open ≡ true }
         requires some { 0 < length (items_of batch.now) }

@@ -1,9 +1,9 @@
-//! What the pair's writer and each reader know of it. It exists in proofs alone: no value of it is made.
+//! What the pair's writer and each reader know about it. It exists only in proofs: no value of it is made.
 use crate::sealed::Sealed;
 use std::snapshot::Snapshot;
 
 /// The opening of the pair, as a board that was shown.
 pub struct Known {
-    /// `None` before anything was shown.
+    /// The board; `None` before any board was shown.
     pub opening: Option<Snapshot<Sealed>>,
 }

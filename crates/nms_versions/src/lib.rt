@@ -1,5 +1,5 @@
-//! The published versions: one publisher appends changes and publishes them in batches. Each desk looks at the version
-//! published last, never older than one that it saw or was told of.
+//! The published versions. One publisher appends changes and publishes them in batches. Each desk looks at the version that was
+//! published last, never an older one than it saw or learned of.
 #![tactic(auto)]
 
 mod append_fault;

@@ -1,11 +1,11 @@
-//! What a desk saw or was told of (specs/Memory). It exists in proofs alone and has no bytes.
+//! The memory of what a desk saw or learned of (specs/Memory). It exists only in proofs and has no bytes.
 ghost use Rattle.std.specs.Prelude.{◌≡◌, ◌∷◌, []};
 
 use crate::history::Token;
 use std::marker::Model;
 use std::snapshot::Snapshot;
 
-/// What was seen or told last, and what came before.
+/// What was seen or learned last, and what came before.
 #[derive(Drop)]
 pub struct Memory {
     last: Token,
@@ -38,7 +38,7 @@ impl Memory {
         }
     }
 
-    /// A memory of one more.
+    /// A memory with one more history.
     pub(crate) fn with(&self, seen: Token) -> Self
         ensures { result ≡ seen.log ∷ self.now }
     {

@@ -1,8 +1,8 @@
-//! Why nothing was opened.
+//! Why no tape was opened.
 use std::fmt;
 use thiserror::Error;
 
-/// Why nothing was opened.
+/// Why no tape was opened.
 #[derive(Clone, Copy, Debug, PartialEq, Eq, Error)]
 pub enum OpenFault {
     /// V1: out of memory.

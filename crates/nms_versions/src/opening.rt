@@ -1,4 +1,4 @@
-//! Opening: a publisher, with the desks that it publishes to (specs/Taped).
+//! Opening a publisher, with the desks to which it publishes (specs/Taped).
 ghost use Rattle.std.specs.Prelude.{◌≡◌, ◌∷◌, [], drop, replicate, IfOk};
 ghost use Rattle.nms_quote.specs.Roster.{sizes_of};
 ghost use Rattle.nms_versions.specs.Fresh.{items_of};
@@ -20,8 +20,8 @@ use nms_fees::Setup;
 use std::alloc::Global;
 use std::sync::{Arc, Wait};
 
-/// Opens an empty tape with the empty version published, and as many desks as the setup's `desks()`, in order of
-/// number. Both boards are made here. It waits for nobody. `NoMemory` and `NoPlace` leave nothing.
+/// Opens an empty tape with the empty version published, and the setup's number of desks, in order of number. Both boards are
+/// made here. It waits for no thread. After `NoMemory` or `NoPlace` nothing is kept.
 pub fn open_tape<R: Wait>(
     alloc: Global,
     rt: &R,
@@ -53,8 +53,8 @@ pub fn open_tape<R: Wait>(
     }
 }
 
-/// Makes the pair of boards of a roster, with nothing on them. An empty batch is published, from which the pair knows
-/// its opening and has room for batches.
+/// Makes the pair of boards of a roster, with nothing on them. It publishes an empty batch, so that the pair knows its opening
+/// and has room for batches.
 fn open_pair<R: Wait>(
     alloc: Global,
     rt: &R,

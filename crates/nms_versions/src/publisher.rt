@@ -23,17 +23,17 @@ use std::sync::Wait;
 use std::thread::Parker;
 use std::time::Duration;
 
-/// How long it rests before it tries again after running out of memory, in microseconds. This product's own rule.
+/// How many microseconds it rests, after it was out of memory, before it tries again. This product's own rule.
 const REST: u64 = 1_000;
 
-/// Appends changes to the tape, and publishes it to the desks of its opening. It is not `Drop`: end it by `close`.
+/// Appends changes to the tape, and publishes it to the desks of its opening. It is not `Drop`, so end it by `close`.
 pub struct Publisher {
     pub(crate) alloc: Global,
     pub(crate) writer: PairWriter,
     pub(crate) history: History,
-    /// All that was appended.
+    /// All changes that were appended.
     pub(crate) tape: Vec<Change>,
-    /// What was appended since the last publishing.
+    /// The changes that were appended since the last publishing.
     pub(crate) fresh: Fresh,
     /// How many changes the published version has.
     pub(crate) published: u64,
@@ -60,15 +60,15 @@ impl Model for Publisher {
 }
 
 impl Publisher {
-    /// Whether a change speaks of participants and symbols of the setup's roster alone.
+    /// Whether a change is only about participants and symbols of the setup's roster.
     pub fn holds(&self, change: &Change) -> bool
         ensures { result ≡ holds self.now.sizes change.now }
     {
         self.writer.published().boards.holds(change)
     }
 
-    /// Appends a change of the roster to the tape. It is published by the next `publish`. `TapeFull` if the tape has as
-    /// many changes as it may, else `NoMemory`; both leave all as it was.
+    /// Appends a change of the roster to the tape. It is published by the next `publish`. `TapeFull` if the tape has as many
+    /// changes as it may, else `NoMemory`. Both leave everything as it was.
     pub fn append(&mut self, change: Change) -> Result<(), AppendFault>
         requires held { holds self.old.sizes change ≡ true }
         ensures added { OnOk result (self.new ≡ record self.old { pending = self.old.pending ++ change ∷ [] }) }
@@ -92,7 +92,7 @@ impl Publisher {
         Ok(())
     }
 
-    /// Makes the whole tape the published version, in one step. Waits for looks at the version before the last.
+    /// Makes all of the tape the published version, in one step. Waits for looks at the version before the last.
     pub fn publish<R: Wait>(&mut self, rt: &R)
         ensures published { self.new ≡ record self.old { published = committed self.old.published self.old.pending; pending = [] } }
         ensures whole { changes self.new.published ≡ tape_of self.old }
@@ -113,8 +113,8 @@ impl Publisher {
         self.published = self.tape.len() as u64;
     }
 
-    /// Makes room for n changes more, within the tape's limit and the memory there is: so none of them waits
-    /// until the tape has moved. Out of memory, the tape grows as it is appended to.
+    /// Makes room for n more changes, within the tape's limit and the memory there is. So none of them waits until the tape has
+    /// moved. If out of memory, the tape grows with each change.
     pub fn make_room(&mut self, changes: usize)
         ensures { self.new ≡ self.old }
     {
@@ -134,7 +134,7 @@ impl Publisher {
         }
     }
 
-    /// All that was appended. Of every publisher: it is within its limit, and no publishing was empty.
+    /// All changes that were appended. For every publisher they are within its limit, and no publishing was empty.
     pub fn tape(&self) -> &[Change]
         ensures tape { result.now ≡ tape_of self.now }
         ensures within { length (tape_of self.now) ≤ self.now.limit }
@@ -143,7 +143,7 @@ impl Publisher {
         self.tape.as_slice()
     }
 
-    /// Ends the publishing, and returns all that was appended. Waits for looks. Desks show nothing from then on.
+    /// Ends the publishing, and returns all changes that were appended. Waits for looks. From then on desks show nothing.
     pub fn close<R: Wait>(self, rt: &R) -> Vec<Change>
         ensures { result.items ≡ tape_of self }
     {
@@ -166,7 +166,7 @@ fn put(tape: &mut Vec<Change>, change: Change)
     requires { vec_len tape.old + 1 ≤ vec_capacity tape.old }
     ensures { tape.new.items ≡ tape.old.items ++ change ∷ [] }
 {
-    // Moving a change takes a mention of the types in it: the prover has to have seen them.
+    // The prover has to see the types in a change before the change moves, so the code mentions them.
     let _seen: (Option<SideQuote>, Option<Lot>) = (None, None);
     let _put = tape.push(change);
 }
@@ -196,7 +196,7 @@ fn publish_batch<R: Wait>(writer: PairWriter, with: (&R, Batch)) -> (PairWriter,
     (publish_pair::<Showing, R>(rt, writer), ())
 }
 
-/// Gives a batch to the pair. The pair has room for it since the opening; else it would wait for memory.
+/// Gives a batch to the pair. The pair has had room for it since the opening; else it would wait for memory.
 fn give<R: Wait>(rt: &R, writer: &mut PairWriter, batch: Batch)
     ensures desk { writer.new.desk ≡ writer.old.desk }
     ensures pending { drop writer.new.behind writer.new.log.items ≡ drop writer.old.behind writer.old.log.items ++ batch ∷ [] }

@@ -1,4 +1,4 @@
-//! A receipt: what was published, for a desk to learn or to settle on (specs/Taped).
+//! A receipt of what was published, for a desk to learn or to settle on (specs/Taped).
 ghost use Rattle.std.specs.Prelude.{◌≡◌, length};
 ghost use Rattle.nms_versions.specs.Published.{changes};
 
@@ -25,7 +25,7 @@ impl Model for Receipt {
 }
 
 impl Receipt {
-    /// The version's number: how many changes it has.
+    /// The version's number, which is how many changes it has.
     pub fn version(&self) -> u64
         ensures { result ≡ length (changes self.now.published) }
     {

@@ -1,4 +1,4 @@
-//! The rule of the pair of boards (specs/Rule), and what each step over it shows.
+//! The rule of the pair of boards (specs/Rule), and the result of each step over it.
 ghost use Rattle.std.specs.Prelude.{◌≡◌, [], drop, fold};
 ghost use Rattle.crossbeam_utils.specs.Register.{TurnsAt};
 ghost use Rattle.nms_board.specs.Cells.{StandsFor};
@@ -30,7 +30,7 @@ impl Protocol<Sealed, Known> for Faithful {
     ghost first = { unnamed };
 }
 
-/// The writer publishes, and knows from then on which opening the pair is of.
+/// The writer publishes, and from then on knows of which opening the pair is.
 pub struct Naming;
 
 impl Outcome<Sealed, Known> for Naming {
@@ -69,7 +69,7 @@ impl Join<Known> for Learning {
     ghost spent = { unnamed };
 }
 
-/// The writer shows the board that has all that was given.
+/// The writer shows the board that has everything that was given.
 pub(crate) fn publish_pair<M: Outcome<Sealed, Known>, R: Wait>(
     rt: &R,
     writer: PairWriter,

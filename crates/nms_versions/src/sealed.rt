@@ -1,4 +1,4 @@
-//! What the pair shows (specs/Rule): a board with its history.
+//! A board with its history, which the pair shows (specs/Rule).
 ghost use Rattle.std.specs.Prelude.{◌≡◌, fold};
 ghost use Rattle.nms_versions.specs.Rule.{absorbed, after_taken};
 
@@ -32,7 +32,7 @@ impl Absorb<Batch> for Sealed {
     }
 }
 
-/// Applies changes in order. One that the board does not take is passed over.
+/// Applies changes in order. A change that the board does not take is skipped.
 fn apply_taken(boards: &mut Boards, changes: &[Change])
     ensures { boards.new ≡ fold after_taken boards.old changes.now }
 {

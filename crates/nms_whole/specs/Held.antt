@@ -1,4 +1,4 @@
--- What a reader of whole lines has in hand, and what it has still to give. This product's own rule.
+-- The state of a reader of complete lines, and what it has still to give. This product's own rule.
 use Rattle.std.specs.Prelude.{ℕ, ◌+◌, List, ◌++◌, drop, length, Option, option_map, if◌then◌else◌}
 use Rattle.nms_whole.specs.Going.{given_after}
 use Rattle.nms_whole.specs.declared.held.Held.{Held}
@@ -16,6 +16,6 @@ still held bytes = ready_of held ++ given_after held.line.items held.is_bad byte
 abbrev pub weight : Held → ℕ
 weight held = length held.ready.items + length held.line.items + (if held.is_bad then 1 else 0)
 
--- what a reader of whole lines has still to give, if it is known what its source has left
+-- what a reader of complete lines has still to give, if it is known what its source has left
 abbrev pub lines_left : {R : Type 0} → (R → Option (List ℕ)) → WholeLines R → Option (List ℕ)
 lines_left remaining lines = option_map (still lines.held) (remaining lines.source)

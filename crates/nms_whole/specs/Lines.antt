@@ -2,12 +2,12 @@
 use Rattle.std.specs.Prelude.{ℕ, ◌==◌, ◌&&◌, ◌||◌, not, Bool, false, List, [], ◌∷◌, ◌++◌, length, nat_le, if◌then◌else◌}
 use Rattle.nms_whole.specs.declared.TheConstants.{MOST_LINE}
 
--- whether a byte stands among these
+-- whether a byte is among these
 abbrev pub has_byte : ℕ → List ℕ → Bool
 has_byte byte [] = false
 has_byte byte (first ∷ rest) = (first == byte) || has_byte byte rest
 
--- whether a carriage return (13) stands anywhere but at the end
+-- whether a carriage return (13) is anywhere but at the end
 abbrev pub returns_within : List ℕ → Bool
 returns_within [] = false
 returns_within (first ∷ []) = false

@@ -1,4 +1,4 @@
-//! What a reader of whole lines has in hand (specs/Held).
+//! The state of a reader of complete lines (specs/Held).
 ghost use Rattle.std.specs.Prelude.{◌≡◌, ◌+◌, ◌<◌, ◌≤◌, ◌∷◌, ◌++◌, List, ℕ, [], length, min, take, true, false};
 ghost use Rattle.nms_whole.specs.Going.{ends_in_return, given_after, spoils};
 ghost use Rattle.nms_whole.specs.Lines.{refused_line};
@@ -10,12 +10,12 @@ use arrayvec::ArrayVec;
 /// The lines that are ready to be passed on, and the line that was begun.
 #[derive(Drop)]
 pub(crate) struct Held {
-    /// The text that is passed on; the first `given` bytes of it were.
+    /// The text that is passed on. Its first `given` bytes were passed on already.
     ready: ArrayVec<u8, ROOM>,
     given: usize,
-    /// The bytes of the line that was begun; none, if it can't be passed on.
+    /// The bytes of the line that was begun; none if it can't be passed on.
     line: ArrayVec<u8, MOST_LINE>,
-    /// The line that was begun can't be passed on.
+    /// Whether the line that was begun can't be passed on.
     is_bad: bool,
     ghost within: { given ≤ length ready.items },
     ghost short: { length line.items ≤ 4096 },
@@ -25,7 +25,7 @@ pub(crate) struct Held {
 impl Held {
     ghost use Rattle.nms_whole.specs.Held.{ready_of, still, weight};
 
-    /// Nothing.
+    /// The state before any byte was read.
     pub(crate) fn new() -> Self
         ensures { (bytes : List ℕ) → still result bytes ≡ given_after [] false bytes }
     {
@@ -58,7 +58,7 @@ impl Held {
         count
     }
 
-    /// Goes through the bytes that were read, of which none was ready before.
+    /// Takes the bytes that were read, of which none was ready before.
     pub(crate) fn take_all(&mut self, bytes: &[u8])
         requires empty { ready_of self.old ≡ [] }
         requires few { length bytes.now ≤ MOST_READ }
@@ -94,7 +94,7 @@ impl Held {
         byte == b'"' || self.line.is_full() || ends_in_return(self.line.as_slice())
     }
 
-    /// The line that was begun has ended, by its line feed.
+    /// Ends the line that was begun, by its line feed.
     fn end_line(&mut self)
         requires room { weight self.old + 2 ≤ ROOM }
         ensures taken { (rest : List ℕ) → still self.new rest ≡ still self.old (10 ∷ rest) }
@@ -109,7 +109,7 @@ impl Held {
         }
     }
 
-    /// The stream has ended: a line that was begun was torn.
+    /// Ends the stream: a line that was begun was torn.
     pub(crate) fn end(&mut self)
         requires empty { ready_of self.old ≡ [] }
         ensures same { still self.new [] ≡ still self.old [] }

@@ -1,4 +1,4 @@
-//! A reader that passes on whole lines (specs/Lines).
+//! A reader that passes on complete lines (specs/Lines).
 ghost use Rattle.std.specs.Prelude.{◌≡◌, ◌<◌, [], length, option_map, IfOk, OnErr, OnOk};
 ghost use Rattle.std.specs.Io.{ReadsAtMost};
 ghost use Rattle.std.specs.Io.KnownBytes.{IsAtEnd, Keeps, ReadConsumes};
@@ -9,15 +9,15 @@ use crate::held::Held;
 use std::io;
 use std::io::{ErrorKind, Read};
 
-/// Passes on the whole lines of a stream, one after another.
+/// Passes on the complete lines of a stream, one after another.
 ///
-/// A line is passed on with its line feed if it has at most 4,096 bytes, no double quote, and no carriage return but
-/// right before its line feed. In place of any other line the reader passes on the line `?`, which is a refused record
-/// whatever the layout. So is the rest of the stream after its last line feed, if there is any: it was torn. So a
-/// stray quote, a glued or a torn line costs one record, and what follows is read as it stands.
+/// A line of at most 4,096 bytes is passed on with its line feed. It may have no double quote, and a carriage return only right
+/// before its line feed. Instead of any other line the reader passes on the line `?`, which is a refused record in every
+/// layout. The same holds for the rest of the stream after its last line feed, if there is any, because it was torn. So a stray
+/// quote, a glued or a torn line costs one record, and what follows is read as it is.
 ///
-/// It takes no memory. A line is passed on as soon as its line feed was read. A read that a signal interrupts is made
-/// again; any other failure of the source is returned, and loses nothing that was read before.
+/// It takes no memory. A line is passed on as soon as its line feed was read. A read that a signal interrupts is made again.
+/// Any other failure of the source is returned, and loses nothing that was read before.
 #[derive(Drop)]
 pub struct WholeLines<R: Read> {
     source: R,
@@ -50,8 +50,8 @@ impl<R: Read> WholeLines<R> {
         Err(io::Error::from(ErrorKind::Interrupted))
     }
 
-    /// Reads once, and goes through what was read, if nothing was ready. Returns how many bytes that were: none at the
-    /// end of the stream, when a line that was begun is refused as torn.
+    /// Reads once, and takes what was read, if nothing was ready. Returns how many bytes that were. There are none at the end
+    /// of the stream, and then a line that was begun is refused as torn.
     fn read_more(&mut self) -> io::Result<usize>
         requires empty { ready_of self.old.held ≡ [] }
         ensures same { Keeps (lines_left R.remaining self.old) (lines_left R.remaining self.new) }
@@ -68,7 +68,7 @@ impl<R: Read> WholeLines<R> {
     }
 }
 
-/// One read; one that a signal interrupts is made again.
+/// Reads once. A read that a signal interrupts is made again.
 fn read_once<R: Read>(source: &mut R, bytes: &mut [u8]) -> io::Result<usize>
     ensures bound { ReadsAtMost result bytes.new }
     ensures bytes { ReadConsumes (R.remaining source.old) (R.remaining source.new) result bytes.new }

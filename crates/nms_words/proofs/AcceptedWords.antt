@@ -83,7 +83,7 @@ sub_asks sub words are flags checked =
     (firsts_given (is_own sub) rows (own_names sub) are (rows_filled (is_own sub) (leaf sub).rules flags [] words)
     (none_missing rows (own_names sub) checked)))
 
--- ---- the whole
+-- ---- all arguments together
 
 entered_asks : (stop : Option (Text × List Text)) → entered_fault (built tool) stop ≡ []
     → is_some (asked_of (entered (built tool) stop)) ≡ true

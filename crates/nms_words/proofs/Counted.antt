@@ -1,4 +1,4 @@
--- What is asked has as many own words as its subcommand may have.
+-- What is asked for has a number of arguments that its subcommand may have.
 use Rattle.std.proofs.Common.{◌≡◌, ◌≤◌, ◌++◌, List, [], ◌∷◌, Option, Some, None, length, option_map, option_and_then, refl, ap, suc, ◌∙◌}
 use Rattle.std.proofs.Common.{arith}
 use Rattle.std.proofs.lemmas.List.{length-append}

@@ -107,7 +107,7 @@ leaf_options sub (choice ∷ rest) taken =
 abbrev pub rows_held : Sub → List Text → List Choice → List Row
 rows_held sub own choices = finished (leaf sub).rules (call_taken (leaf sub).rules own choices).0
 
--- the subcommand takes the words and the options, and holds them then
+-- the subcommand takes the arguments and the options, and holds them then
 pub record Answers (sub : Sub) (own : List Text) (choices : List Choice) : Type 0 where
   pub passes : PassesCall (leaf sub) own choices
   pub asks : asked_in (rows_held sub own choices) sub ≡ Some (fold chosen (bare sub own) choices)

@@ -9,7 +9,7 @@ use Rattle.nms_words.specs.CommandLine.{name_of, tool}
 use Rattle.nms_words.specs.declared.subcommand.Sub.{Sub}
 use Rattle.nms_words.specs.declared.subcommand.Sub.TheVariants.{Script, Report, Plan, Check, Live}
 
--- the state of the walk after it met a subcommand, with the words after its name
+-- the state of the walk after it met a subcommand, with the arguments after its name
 abbrev met : Text → List Text → Walk
 met name after = record { held = nothing_held; waiting = idle; position = 1; is_trailing = false; stopped = Some (name, after) }
 
@@ -43,7 +43,7 @@ named_stops Live rest = ap (λ (w : Walk). w.stopped) (met_rest above.rules sub_
 pub named_reads : (sub : Sub) (rest : List Text) → subcommand_of tool (name_of sub ∷ rest) ≡ entered (built tool) (Some (name_of sub, rest))
 named_reads sub rest = ap (entered (built tool)) (named_stops sub rest)
 
--- the words are taken if the subcommand takes the rest
+-- the arguments are taken if the subcommand takes the rest
 pub named_takes : (sub : Sub) (rest : List Text) → entered_passes (built tool) (Some (name_of sub, rest)) ≡ true
     → takes tool (name_of sub ∷ rest) ≡ true
 unfolding clap_on_literals

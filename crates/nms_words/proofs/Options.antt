@@ -13,7 +13,7 @@ use Rattle.nms_words.specs.declared.subcommand.Sub.TheVariants.{Script, Report, 
 abbrev is_repeated : Choice → List Choice → Bool
 is_repeated choice rest = list_any (is_same_option (option_of choice)) (map option_of rest)
 
--- each option stands at most once
+-- each option is there at most once
 abbrev pub Once : List Choice → Type 0
 Once [] = Unit {0}
 Once (choice ∷ rest) = (is_repeated choice rest ≡ false) × Once rest
@@ -27,7 +27,7 @@ each_once (choice ∷ rest) once =
 apart : {A : Type 0} → true ≡ false → A
 apart wrong = cc
 
--- ---- a subcommand that takes the setup alone
+-- ---- a subcommand that takes only the setup
 
 abbrev pub setup_choices : Option Text → List Choice
 setup_choices None = []

@@ -9,7 +9,7 @@ use Rattle.nms_words.specs.WordTable.{own_by, own_of, own_value}
 use Rattle.nms_words.specs.declared.subcommand.Sub.{Sub}
 use Rattle.nms_words.specs.declared.subcommand.Word.{Word}
 
--- the values of words are those of the names of the words that are no options
+-- the values of words are those of the names of the arguments that are no options
 values_given : (rows : List Row) (words : List Word) → filter_map (own_value rows) words ≡ given_of rows (own_of words)
 values_given rows [] = refl
 values_given rows (word ∷ words) = go (own_by word.kind word.name.now) (values_given rows words)

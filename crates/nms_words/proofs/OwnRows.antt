@@ -115,7 +115,7 @@ module _ (own : Text → Bool) where
   first_in [] has = elim has [ ]
   first_in (x ∷ xs) has = refl
 
-  -- a word of its own that was given has a first value
+  -- one of its arguments that was given has a first value
   pub given_first : (id : Text) (rows : List Row) → own id ≡ true → Filled rows → is_given id rows ≡ true
       → is_some (first_of id rows) ≡ true
   given_first id [] is filled given = cc

@@ -1,4 +1,4 @@
--- Whatever the words are, each own word that the parser has met has a value.
+-- Whatever the arguments are, each own word that the parser has met has a value.
 use Rattle.std.proofs.Common.{◌≡◌, ◌∙◌, ◌&&◌, ◌||◌, ℕ, zero, suc, Bool, true, false, not, List, [], ◌∷◌, Option, Some, None, find, fold}
 use Rattle.std.proofs.Common.{is_some, refl, sym, ap, cond}
 use Rattle.std.specs.List.{list_all}

@@ -14,7 +14,7 @@ use Rattle.nms_words.proofs.WalkSteps.{IsCall, call_passes, call_rows}
 use Rattle.nms_words.specs.declared.subcommand.Sub.{Sub}
 use Rattle.nms_words.specs.declared.subcommand.Sub.TheVariants.{Script, Report, Plan, Check, Live}
 
--- the parser takes the words, and they ask for this
+-- the parser takes the arguments, and they ask for this
 pub record IsTaken (words : List Text) (asked : Asked) : Type 0 where
   pub taken : takes tool words ≡ true
   pub asked_for : asked_by words ≡ Some asked

@@ -65,7 +65,7 @@ value_passes s id at (x ∷ xs) rest plain = let other = not-true (x == 45) plai
 
 -- ---- the own words
 
--- the argument takes one value, and the words after it are read as before
+-- the argument takes one value, and the arguments after it are read as before
 abbrev pub is_single : Rule → Bool
 is_single a = not (is_multiple a) && not a.trailing_var_arg
 
@@ -94,7 +94,7 @@ word_next rules at word single = go (arg_by_index rules at.1) (found_passes _ is
         let both = and_parts (not (is_multiple a)) (not a.trailing_var_arg) (passes a refl) in
         rw (not-true (is_multiple a) both.0, not-true a.trailing_var_arg both.1) refl
 
--- after each of the words
+-- after each of the arguments
 abbrev pub own_taken : List Rule → At → List Text → At
 own_taken rules at [] = at
 own_taken rules at (word ∷ rest) = own_taken rules (word_at rules at word) rest
@@ -298,7 +298,7 @@ choices_walk_passes s at (self_help_of names ∷ rest) have plain passes =
     steps.0
     (choices_walk_passes s after rest have.1 both.1 steps.1)
 
--- ---- a whole call
+-- ---- a complete call
 
 abbrev pub start : At
 start = (nothing_held, 1)
@@ -314,7 +314,7 @@ pub record PassesCall (s : Shape) (own : List Text) (choices : List Choice) : Ty
   pub last : (settle_passes s.rules s.args_override_self (call_taken s.rules own choices).0
       && (list_all default_passes s.rules && is_valid s (finished s.rules (call_taken s.rules own choices).0) false)) ≡ true
 
--- the words of a call are plain, and a subcommand takes its options
+-- the arguments of a call are plain, and a subcommand takes its options
 pub record IsCall (rules : List Rule) (own : List Text) (choices : List Choice) : Type 0 where
   pub single : list_all is_single rules ≡ true
   pub have : HaveOptions rules choices

@@ -1,4 +1,4 @@
--- What the words of the command line ask for. This product's own rule.
+-- What the arguments of the command line ask for. This product's own rule.
 use Rattle.std.specs.Prelude.{ℕ, ◌≡◌, ◌≤◌, ◌+◌, Bool, true, false, List, [], ◌∷◌, ◌++◌, length, map, fold, find, codes}
 use Rattle.std.specs.List.{filter_map}
 use Rattle.std.specs.Prelude.{Option, Some, None, option_map, option_and_then}
@@ -46,13 +46,13 @@ own_names Plan = codes "CHANGES" ∷ codes "SIDE" ∷ codes "SYM" ∷ codes "SHA
 own_names Check = codes "CHANGES" ∷ codes "PLANFILE" ∷ []
 own_names Live = codes "ORDERS" ∷ codes "FEED_A" ∷ []
 
--- the names of those that may stand after them, in order
+-- the names of those that may follow them, in order
 abbrev pub more_names : Sub → List Text
 more_names Live =
     codes "FEED_B" ∷ codes "FEED_C" ∷ codes "FEED_D" ∷ codes "FEED_E" ∷ codes "FEED_F" ∷ codes "FEED_G" ∷ codes "FEED_H" ∷ []
 more_names _ = []
 
--- a subcommand may have this number of words of its own
+-- a subcommand may have this number of arguments
 abbrev pub AreCounted : Sub → ℕ → Type 0
 AreCounted sub count = (length (own_names sub) ≤ count) × (count ≤ length (own_names sub) + length (more_names sub))
 
@@ -69,7 +69,7 @@ subs = Script ∷ Report ∷ Plan ∷ Check ∷ Live ∷ []
 abbrev pub sub_named : Text → Option Sub
 sub_named name = find (λ sub. bytes_eq (name_of sub) name) subs
 
--- ---- the words that the parser takes
+-- ---- the arguments that the parser takes
 
 -- a word of a subcommand's own
 abbrev pub own_rule : Text → Rule
@@ -97,7 +97,7 @@ option_rule SelfHelp = self_help_rule
 abbrev pub with_own : Sub → App
 with_own sub = fold with_rule (new_app (name_of sub)) (map own_rule (own_names sub))
 
--- and with those that may stand after them
+-- and with those that may follow them
 abbrev pub with_words : Sub → App
 with_words sub = fold with_rule (with_own sub) (map new_rule (more_names sub))
 
@@ -105,12 +105,12 @@ with_words sub = fold with_rule (with_own sub) (map new_rule (more_names sub))
 abbrev pub app_of_sub : Sub → App
 app_of_sub sub = fold with_rule (with_words sub) (map option_rule (options_of sub))
 
--- the words are those after the program's name, `help` is no subcommand, and there is a version to print
+-- the arguments are those after the program's name, `help` is no subcommand, and there is a version to print
 abbrev pub without_subs : App
 without_subs = on_top (λ top. record top { no_binary_name = true; disable_help_subcommand = true; has_version = true })
     (new_app (codes "nms_tool"))
 
--- the whole command line
+-- the complete command line
 abbrev pub tool : App
 tool = fold (λ app sub. with_subcommand app (app_of_sub sub).top) without_subs subs
 
@@ -161,7 +161,7 @@ abbrev pub asked_of : Option (Text × List Row) → Option Asked
 asked_of None = Some script_alone
 asked_of (Some met) = option_and_then (asked_in met.1) (sub_named met.0)
 
--- what the words ask, by the matches that the parser makes of them
+-- what the arguments ask, by the matches that the parser makes of them
 abbrev pub asked_by : List Text → Option Asked
 asked_by words = asked_of (subcommand_of tool words)
 
@@ -177,11 +177,11 @@ shown request = record {
 
 -- ---- words that are no request
 
--- the kinds of fault that the parser finds in the words, among which it answers one; none if it takes them
+-- the kinds of fault that the parser finds in the arguments, among which it answers one; none if it takes them
 abbrev pub faults_in : List Text → Kinds
 faults_in = fault_of tool
 
--- the words ask for help, or for the version
+-- the arguments ask for help, or for the version
 abbrev pub asks_for_help : ErrorKind → Bool
 asks_for_help DisplayHelp = true
 asks_for_help DisplayVersion = true

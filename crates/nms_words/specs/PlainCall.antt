@@ -11,7 +11,7 @@ abbrev pub is_plain_word : Text → Bool
 is_plain_word [] = false
 is_plain_word (c ∷ _) = not (c == 45)
 
--- an option as the words choose it
+-- an option as the arguments choose it
 pub data Choice : Type 0 where
   setup_to : Text → Choice
   manual_on : Choice
@@ -41,7 +41,7 @@ chosen asked (setup_to file) = record asked { setup = Some file }
 chosen asked manual_on = record asked { manual = true }
 chosen asked (self_help_of names) = record asked { self_help = Some names }
 
--- the words of each, one after the other
+-- the arguments of each, one after the other
 abbrev pub choices_words : List Choice → List Text
 choices_words [] = []
 choices_words (choice ∷ rest) = choice_words choice ++ choices_words rest
@@ -52,13 +52,13 @@ is_same_option Manual Manual = true
 is_same_option SelfHelp SelfHelp = true
 is_same_option _ _ = false
 
--- whether each option stands at most once
+-- whether each option is there at most once
 abbrev pub is_each_once : List OptionWord → Bool
 is_each_once [] = true
 is_each_once (option ∷ rest) = not (list_any (is_same_option option) rest) && is_each_once rest
 
--- the words are the subcommand, its own words in order, and options that it takes, each at most once and in any order; none
--- of the words and values is empty or begins with a hyphen
+-- the arguments are the subcommand, its own words in order, and options that it takes, each at most once and in any order; none
+-- of the arguments and values is empty or begins with a hyphen
 pub record IsPlainCall (words : List Text) (asked : Asked) : Type 0 where
   pub choices : List Choice
   pub spelled : words ≡ (name_of asked.command ∷ asked.own) ++ choices_words choices

@@ -1,4 +1,4 @@
--- What the words of a subcommand's table are: rules of the parser, and names of own words. This product's own rule.
+-- What the arguments of a subcommand's table are: rules of the parser, and names of own words. This product's own rule.
 use Rattle.std.specs.Prelude.{◌++◌, List, Option, Some, None, map, option_and_then}
 use Rattle.std.specs.List.{filter_map}
 use Rattle.clap.specs.Words.{Row, Rule, Text, first_of, new_rule}
@@ -10,7 +10,7 @@ use Rattle.nms_words.specs.declared.subcommand.Word.{Word}
 use Rattle.nms_words.specs.declared.subcommand.WordKind.{WordKind}
 use Rattle.nms_words.specs.declared.subcommand.WordKind.TheVariants as kind
 
--- the rule of a word by where it stands; an option has its name with two hyphens, and one of two has a value
+-- the rule of an argument by its kind; an option has its name with two hyphens, and one of two has a value
 abbrev rule_by : WordKind → Text → Rule
 rule_by kind.Needed name = own_rule name
 rule_by kind.Further name = new_rule name
@@ -21,7 +21,7 @@ rule_by (kind.Option option.SelfHelp) name = record (new_rule name) { long = Som
 abbrev pub rule_for : Word → Rule
 rule_for word = rule_by word.kind word.name.now
 
--- the rules of a subcommand: its needed words, those that may stand after them, its options
+-- the rules of a subcommand: its needed arguments, those that may follow them, its options
 abbrev pub rules_of_sub : Sub → List Rule
 rules_of_sub sub = map own_rule (own_names sub) ++ map new_rule (more_names sub) ++ map option_rule (options_of sub)
 
@@ -31,7 +31,7 @@ own_by kind.Needed name = Some name
 own_by kind.Further name = Some name
 own_by (kind.Option _) name = None
 
--- the names of the words that are no options, in order
+-- the names of the arguments that are no options, in order
 abbrev pub own_of : List Word → List Text
 own_of words = filter_map (λ word. own_by word.kind word.name.now) words
 

@@ -13,7 +13,7 @@ use std::alloc::{AllocError, Global};
 
 const ABOUT: &str = "A consolidated quote board after Regulation NMS";
 
-/// The whole command line.
+/// The complete command line.
 pub(crate) fn tool_command<'a>(alloc: Global) -> Result<Command<'a>, AllocError>
     ensures { IfOk result (λ command. app_of command ≡ tool) }
 {
@@ -51,7 +51,7 @@ fn sub_commands<'a>(alloc: Global) -> Result<Vec<Command<'a>>, AllocError>
     Ok(below)
 }
 
-// A subcommand with its words.
+// A subcommand with its arguments.
 fn sub_command<'a>(alloc: Global, sub: Sub) -> Result<Command<'a>, AllocError>
     ensures app { IfOk result (λ command. app_of command ≡ app_of_sub sub) }
     ensures local { IfOk result (λ command. (fields_of command).has_globals ≡ false) }
@@ -62,7 +62,7 @@ fn sub_command<'a>(alloc: Global, sub: Sub) -> Result<Command<'a>, AllocError>
     Command::new(alloc, name).about(about).args(args)
 }
 
-// The words as the parser takes them.
+// The arguments as the parser takes them.
 fn args_of<'a>(alloc: Global, words: &[Word]) -> Result<Vec<Arg<'a>>, AllocError>
     ensures rules { IfOk result (λ args. map rule_of args.items ≡ map rule_for words.now) }
     ensures local { IfOk result (λ args. All (λ arg. arg.global ≡ false) args.items) }
@@ -74,7 +74,7 @@ fn args_of<'a>(alloc: Global, words: &[Word]) -> Result<Vec<Arg<'a>>, AllocError
     Ok(args)
 }
 
-// A word as the parser takes it, with its explanation in the help.
+// An argument as the parser takes it, with its explanation in the help.
 fn arg_of<'a>(alloc: Global, word: Word) -> Arg<'a>
     ensures rule { rule_of result ≡ rule_for word }
     ensures local { result.global ≡ false }

@@ -1,4 +1,4 @@
-//! The words of the command line, read as a request.
+//! Reading the arguments of the command line as a request.
 ghost use Rattle.std.specs.Prelude.{◌≡◌, map, true, is_some, option_map, Some, IfOk, IfErr, OnOk, MatchResult, vec_len, [], ◌∷◌, ◌++◌};
 ghost use Rattle.std.specs.String.{string_bytes};
 ghost use Rattle.clap.specs.Words.{first_of, found_of, kind_of, rows_of, subcommand_rows_of, takes};
@@ -20,11 +20,11 @@ const SETUP_TIP: &str = "
 tip: give --setup after the subcommand: nms_tool script --setup FILE
 ";
 
-/// Reads the words that follow the program's name: a subcommand, its own words and its options.
+/// Reads the arguments that follow the program's name: a subcommand, its own arguments and its options.
 ///
-/// No words ask for the script with no setup. Words in which the parser finds no fault are a request. Else the answer
-/// is `Parser`, for one of the faults that it finds, or for the help or the version that was asked for. `NoMemory` may
-/// come in place of any answer.
+/// No arguments ask for the script with no setup. Arguments in which the parser finds no fault are a request. Else the answer
+/// is `Parser`, for one of the faults that it finds, or for the help or the version that was asked for. `NoMemory` may come
+/// instead of any answer.
 pub fn read_words<'a>(alloc: Global, words: &'a [&'a str]) -> Result<Request, WordsFault>
     ensures read { IfOk result (λ request. asked_by (map (λ word. word.now) words.entry.now) ≡ Some (shown request)) }
     ensures accepted { IfOk result (λ _. faults_in (map (λ word. word.now) words.entry.now) ≡ []) }
@@ -50,7 +50,7 @@ fn parse_words<'a>(alloc: Global, words: &'a [&'a str]) -> Result<Request, Words
     }
 }
 
-// The parser's text, or out of memory.
+// The parser's text, or that it was out of memory.
 fn fault_of(alloc: Global, words: &[&str], error: &Error) -> WordsFault
     ensures memory { kind_of error.now ≡ ErrorKind.OutOfMemory → result ≡ WordsFault.NoMemory }
     ensures refused { IsRefusal (kind_of error.now ∷ []) result }
@@ -79,12 +79,12 @@ fn text_of(alloc: Global, words: &[&str], error: &Error) -> Result<String, Alloc
     format!(in alloc; "{shown}{tip}")
 }
 
-// Whether the word is `--setup` or `--setup=FILE`.
+// Whether the argument is `--setup` or `--setup=FILE`.
 fn is_setup_option(word: &str) -> bool {
     word == "--setup" || word.starts_with("--setup=")
 }
 
-// Whether the words ask for help, or for the version.
+// Whether the arguments ask for help, or for the version.
 fn is_help(kind: ErrorKind) -> bool
     ensures { result ≡ asks_for_help kind }
 {
@@ -111,7 +111,7 @@ fn request_in(alloc: Global, matches: &ArgMatches<'_>) -> Result<Request, AllocE
     }
 }
 
-// The request that a subcommand's matches hold, which have each of the words that it needs.
+// The request that a subcommand's matches hold. They have each of the arguments that it needs.
 fn request_of(alloc: Global, command: Sub, matches: &ArgMatches<'_>) -> Result<Request, AllocError>
     requires { is_some (asked_in (rows_of (found_of matches.now)) command) ≡ true }
     ensures { IfOk result (λ request. Some (shown request) ≡ asked_in (rows_of (found_of matches.now)) command) }
@@ -128,7 +128,7 @@ fn request_of(alloc: Global, command: Sub, matches: &ArgMatches<'_>) -> Result<R
     })
 }
 
-// The values of the words that are no options, of each that has one.
+// The values of the arguments that are no options, for each that has one.
 fn own_values(
     alloc: Global,
     words: &[Word],
@@ -145,7 +145,7 @@ fn own_values(
     Ok(values)
 }
 
-// The first value of a word that is no option.
+// The first value of an argument that is no option.
 fn own_value<'a>(matches: &ArgMatches<'a>, word: &Word) -> Option<&'a str>
     ensures { option_map (λ value. value.now) result ≡ own_value (rows_of (found_of matches.now)) word.now }
 {

@@ -1,10 +1,10 @@
-//! What the help says after the commands and options: the statuses, and a line for each refusal.
+//! The text of the help after the commands and options: the statuses, and a line for each refusal.
 
 /// The version that `--version` reports.
 pub(crate) const VERSION: &str = "0.2.0";
 
-/// The end of the help. An installed program has no `docs/ERRORS.md` beside it, so each code of a refusal is explained
-/// here; that page says what to do about it.
+/// The end of the help. An installed program has no `docs/ERRORS.md` next to it, so each code of a refusal is explained here.
+/// That page says what to do about it.
 pub(crate) const AFTER_HELP: &str = "Each command also takes:
       --setup <FILE>  The file of the setup, in place of the built-in one
 

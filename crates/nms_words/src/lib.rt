@@ -1,4 +1,4 @@
-//! The words of the quote board's command line: what they ask for, or why they are refused.
+//! The arguments of the quote board's command line: what they ask for, or why they are refused.
 #![tactic(auto)]
 
 mod command_line;

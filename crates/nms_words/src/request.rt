@@ -1,11 +1,11 @@
 use crate::subcommand::Sub;
 
-/// What the words of the command line ask for.
+/// What the arguments of the command line ask for.
 #[derive(Drop)]
 pub struct Request {
-    /// What is to be done.
+    /// The subcommand that is asked for.
     pub command: Sub,
-    /// The subcommand's own words, in order.
+    /// The subcommand's own arguments, in order.
     pub words: Vec<String>,
     /// The file that `--setup` names.
     pub setup: Option<String>,

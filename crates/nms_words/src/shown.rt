@@ -1,10 +1,10 @@
-//! The parser's text as it is printed: it quotes words of the call, and replaces each character of them that a terminal
-//! could act on by an escape.
+//! The parser's text as it is printed. It quotes arguments of the call, and an escape replaces each character on which a
+//! terminal could act.
 use std::fmt;
 use std::fmt::Write;
 
-/// A text with printable ASCII, line feeds and the letters of European alphabets as they are. Any other character
-/// becomes `\x1b` or `\u{202e}`, and a backslash two.
+/// A text with printable ASCII, line feeds and the letters of European alphabets as they are. Any other character becomes
+/// `\x1b` or `\u{202e}`, and a backslash becomes two.
 #[derive(Clone, Copy)]
 pub(crate) struct Shown<'a>(pub(crate) &'a str);
 
@@ -30,7 +30,8 @@ fn write_letter<W: fmt::Write>(f: &mut fmt::Formatter<W>, letter: char) -> fmt::
     }
 }
 
-/// Whether a character takes one column, written from left to right, and joins no other: Latin, Greek, Cyrillic.
+/// Whether a character takes one column, is written from left to right, and joins no other. The letters are Latin, Greek and
+/// Cyrillic.
 fn is_letter(letter: char) -> bool {
     matches!(letter, '\u{a1}'..='\u{ac}' | '\u{ae}'..='\u{2ff}' | '\u{391}'..='\u{3ce}' | '\u{400}'..='\u{481}')
 }

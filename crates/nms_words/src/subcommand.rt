@@ -1,23 +1,23 @@
 use crate::option_word::OptionWord;
 
-/// What the program can be asked to do, each a subcommand of the command line.
+/// A thing that the program can do. Each is a subcommand of the command line.
 #[derive(Clone, Copy, PartialEq, Eq)]
 pub enum Sub {
-    /// Answers a script from standard input. It has no words of its own.
+    /// Answers a script from standard input. It has no arguments.
     Script,
-    /// Reports on a file of changes. Its own words are `CHANGES` and `SYM`.
+    /// Reports on a file of changes. Its own arguments are `CHANGES` and `SYM`.
     Report,
-    /// Plans an order on a file of changes. Its own words are `CHANGES`, `SIDE`, `SYM`, `SHARES` and `LIMIT`, and it
-    /// may have `--manual` and `--self-help`.
+    /// Plans an order on a file of changes. Its own arguments are `CHANGES`, `SIDE`, `SYM`, `SHARES` and `LIMIT`, and it may
+    /// have `--manual` and `--self-help`.
     Plan,
-    /// Says whether a plan is confirmed on a file of changes. Its own words are `CHANGES` and `PLANFILE`.
+    /// Says whether a plan is confirmed on a file of changes. Its own arguments are `CHANGES` and `PLANFILE`.
     Check,
-    /// Runs the feeds, the tape and the desks at once. Its own words are `ORDERS` and `FEED_A`, and as many of `FEED_B` to
-    /// `FEED_H` as there are further feeds.
+    /// Runs the feeds, the tape and the desks together. Its own arguments are `ORDERS` and `FEED_A`, and one of `FEED_B` to
+    /// `FEED_H` for each further feed.
     Live,
 }
 
-/// A word that the parser takes of a subcommand, with its explanation in the help.
+/// An argument that the parser takes for a subcommand, with its explanation in the help.
 #[derive(Clone, Copy)]
 pub(crate) struct Word {
     pub(crate) name: &'static str,
@@ -25,12 +25,12 @@ pub(crate) struct Word {
     pub(crate) kind: WordKind,
 }
 
-/// Where a word stands.
+/// The kind of an argument.
 #[derive(Clone, Copy)]
 pub(crate) enum WordKind {
-    /// A word of the subcommand's own that it needs.
+    /// An argument that the subcommand needs.
     Needed,
-    /// A word that may stand after those.
+    /// An argument that may follow the needed ones.
     Further,
     /// An option.
     Option(OptionWord),
@@ -168,7 +168,7 @@ impl Sub {
         Self::Live,
     ];
 
-    /// The word that asks for it.
+    /// The name of the subcommand.
     pub(crate) fn name(self) -> &'static str
         ensures { result.now ≡ name_of self }
     {
@@ -181,7 +181,7 @@ impl Sub {
         }
     }
 
-    /// What it does, as the help says.
+    /// What the subcommand does, as the help says.
     pub(crate) fn about(self) -> &'static str {
         match self {
             Sub::Script => "Answers the script on standard input, as with no command",
@@ -193,8 +193,8 @@ impl Sub {
         }
     }
 
-    /// The words that the parser takes of it: those that it needs, in order, those that may stand after them, in order,
-    /// each of which needs all before it, and its options, each at most once and in any order.
+    /// The arguments that the parser takes for it. First come those that it needs, in order. Those that may follow them are in
+    /// order, and each needs all before it. Its options may be given at most once each and in any order.
     pub(crate) fn words(self) -> &'static [Word]
         ensures rules { map rule_for result.now ≡ rules_of_sub self }
         ensures own { own_of result.now ≡ own_names self ++ more_names self }
@@ -208,7 +208,7 @@ impl Sub {
         }
     }
 
-    /// The subcommand of that name.
+    /// The subcommand with that name.
     pub(crate) fn named(name: &str) -> Option<Self>
         ensures { result ≡ sub_named name.now }
     {

@@ -1,4 +1,4 @@
-//! Appending when memory may run out: a change that found none is appended once more, and nothing was lost between.
+//! Appending when memory may be short: a change for which there was none is appended once more, and nothing is lost between.
 ghost use Rattle.std.specs.Prelude.{◌≡◌};
 
 use crate::Failed;
@@ -13,17 +13,17 @@ use std::thread;
 /// The result.
 #[derive(Drop)]
 pub(crate) struct Appended {
-    /// How many of the changes stand at their places on the tape.
+    /// How many of the changes are at their places on the tape.
     pub(crate) in_place: usize,
     /// How many changes the tape has.
     pub(crate) tape: usize,
     /// The last version that a desk saw, and how many shares it saw there.
     pub(crate) shown: (u64, u32),
-    /// Whether each change was appended, the first time or the second, and each refusal left all as it was.
+    /// Whether each change was appended, the first time or the second, and each refusal left everything as it was.
     pub(crate) is_whole: bool,
 }
 
-/// Appends n changes and publishes them, half of them at once.
+/// Appends n changes and publishes them in two halves.
 pub(crate) fn append_all<R: Wait>(
     rt: &R,
     alloc: Global,
@@ -61,14 +61,14 @@ fn append_each<R: Wait>(rt: &R, publisher: &mut Publisher, count: u32) -> bool {
     is_whole
 }
 
-/// The change of that number: the participant offers a round lot more each time.
+/// The change with that number. The participant offers a round lot more each time.
 fn offer_numbered(number: u32) -> Option<Change> {
     let shares = (number % 1000 + 1) * 100;
     offer_of(0, QState::Automated, 100_000, shares)
 }
 
-/// Appends the change of that number, and reports whether it is on the tape now. If out of memory, the tape and what is published have to
-/// be as they were, and the same change is appended once more.
+/// Appends the change with that number, and reports whether it is on the tape now. If out of memory, the tape and what is
+/// published have to be as they were, and the same change is appended once more.
 fn append_again(publisher: &mut Publisher, number: u32) -> bool {
     let Some(change) = offer_numbered(number) else {
         return false;
@@ -82,7 +82,7 @@ fn append_again(publisher: &mut Publisher, number: u32) -> bool {
         Err(AppendFault::TapeFull) => false,
         Err(AppendFault::NoMemory) => {
             let left = length_and_version(publisher);
-            // Another thread may give memory back.
+            // It yields because another thread may give memory back.
             thread::yield_now();
             left == before && publisher.append(change).is_ok()
         }
@@ -108,7 +108,7 @@ fn shown_to(desk: &mut Desk, sym: Sym) -> (u64, u32) {
     }
 }
 
-/// How many changes of a tape stand where they were appended.
+/// How many changes of a tape are at the places at which they were appended.
 fn in_place(tape: &[Change]) -> Result<usize, Failed> {
     let mut count = 0usize;
     for (change, number) in tape.iter().zip(0..1000u32) {

@@ -1,4 +1,4 @@
-//! A lane, published versions and a desk: two feeds, the taker and the desk, each in a thread of one's own.
+//! A lane, published versions and a desk: two feeds, the taker and the desk, each in its thread.
 ghost use Rattle.std.specs.Prelude.{◌≡◌, ◌≤◌, [], All, IfOk, IfSome};
 ghost use Rattle.nms_quote.specs.declared.feed.Feed.TheVariants as feed;
 ghost use Rattle.nms_feed.specs.declared.TheConstants.{LEAST_CAPACITY, MOST_CAPACITY};

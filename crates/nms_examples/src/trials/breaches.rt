@@ -1,4 +1,4 @@
-//! Plans that are judged for another version or another order than their own: a program judges each plan for its own.
+//! Judging plans for another version or another order than their own. A program judges each plan only for its own.
 use super::{same, there};
 use crate::offers::apply_offer;
 use nms_board::{Boards, View};
@@ -10,7 +10,7 @@ use nms_rules::breach;
 use std::alloc::Global;
 use std::test::Fail;
 
-/// On versions before the plans' own, on that, and on the next one.
+/// Tries the plans on versions before their own, on their own, and on the next one.
 pub(super) fn try_all(alloc: Global, setup: &Setup) -> Result<(), Fail> {
     let mut board = Boards::new(alloc, setup.roster())?;
     let sym = there(setup.roster().find_sym(b"ABC"))?;
@@ -26,7 +26,7 @@ pub(super) fn try_all(alloc: Global, setup: &Setup) -> Result<(), Fail> {
     Ok(())
 }
 
-/// Judges plans of version 3 to buy 700 ABC at 10.01 or better on a view, each with its first breach there.
+/// Judges plans of version 3 to buy 700 ABC at 10.01 or better on a view. Each has its first breach there.
 fn try_plans(alloc: Global, setup: &Setup, view: &View) -> Result<(), Fail> {
     for (rest, code) in [
         ("700,7006.020000000\nLEG,N,10,300\nLEG,P,10.01,400", "none"),
@@ -73,7 +73,7 @@ fn try_plan(setup: &Setup, view: &View, plan: &Plan, code: &'static str) -> Resu
     Ok(())
 }
 
-/// The code of the first breach of a plan for an order, `none` if it has none.
+/// The code of the first breach of a plan for an order; `none` if it has none.
 fn found(setup: &Setup, view: &View, order: &Order, plan: &Plan) -> &'static str {
     match breach(view, order, setup.fees(), plan) {
         Some(breach) => breach.code(),

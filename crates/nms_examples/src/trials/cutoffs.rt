@@ -46,7 +46,7 @@ fn compare(view: &View, fees: &FeeBook, due: &[Option<Told>]) -> Result<(), Fail
 }
 
 /// N's manual offer is in the pool at each price and is never swept. P's protected one is in the pool at its own price, and is
-/// swept with its fee at the worse one. After the last price there is no more, and it stays so.
+/// swept with its fee at the worse one. After the last price there are no further cutoffs.
 pub(super) fn a_protected_row_is_swept_with_its_fee_at_the_next_price(
     alloc: Global,
     setup: &Setup,

@@ -1,4 +1,4 @@
-//! The limits of numbers, by values from outside, the faults of their texts, and the laws of these.
+//! The limits of numbers, by values from outside; the faults of their texts; and the laws about these.
 use super::{same, there};
 use nms_fees::Setup;
 use nms_quote::{OrderSide, Part};
@@ -10,13 +10,13 @@ pub(super) fn try_all(setup: &Setup) -> Result<(), Fail> {
     whole_lots_are_displayed()?;
     each_wrong_text_has_its_fault()?;
     who_is_no_participant_has_no_fee(setup)?;
-    // What is printed reads back as itself: the two laws are calls that do nothing.
+    // The two laws that what is printed is read back are calls that do nothing.
     Price::reads_what_it_prints();
     Money::reads_what_it_prints();
     Ok(())
 }
 
-/// The least and the most can be made, and nothing beyond them.
+/// The least and the greatest number can be made, and none beyond them.
 fn numbers_have_their_limits() -> Result<(), Fail> {
     for (number, is_price) in [
         (0, false),
@@ -43,7 +43,7 @@ fn whole_lots_are_displayed() -> Result<(), Fail> {
     Ok(())
 }
 
-/// A record or a plan with such a text has a code of its own, which does not tell them apart.
+/// A record or a plan with such a text has its own code, which does not distinguish these.
 fn each_wrong_text_has_its_fault() -> Result<(), Fail> {
     for text in [b"0".as_slice(), b"0000000.0000"] {
         same(Price::parse(text), Err(UnitFault::ZeroPrice))?;

@@ -1,4 +1,4 @@
-//! How much a roster takes, and what it holds.
+//! How much a roster takes, and what is on it.
 use super::same;
 use nms_board::Boards;
 use nms_quote::{Change, Feed, Part, QState, Roster, RosterFault, Sym};

@@ -17,7 +17,7 @@ pub(super) fn try_all(alloc: Global, setup: &Setup) -> Result<(), Fail> {
     a_failed_read_leaves_the_answers_so_far(alloc, setup)?;
     a_failed_write_or_flush_ends_the_script(alloc, setup)?;
     no_record_follows_a_failed_read(alloc)?;
-    // A law is a call that does nothing.
+    // The law is called because it is a function that does nothing.
     the_least_fault_is_read();
     Ok(())
 }
@@ -39,7 +39,7 @@ fn records() -> &'static [(&'static str, usize)] {
     &RECORDS
 }
 
-/// Begins a record, or ends, if exactly the answers to all records before are out. Else the read fails.
+/// Begins a record, or ends, if exactly the answers to all records before were written. Else the read fails.
 #[derive(Drop)]
 struct Asker<'a> {
     rest: &'static [u8],
@@ -99,7 +99,7 @@ fn ended(
 }
 
 fn a_failed_read_leaves_the_answers_so_far(alloc: Global, setup: &Setup) -> Result<(), Fail> {
-    // The last record of the third script does not end.
+    // The loop is over two texts, because the last record of the third script does not end.
     for (text, answers) in [
         (b"".as_slice(), 0),
         (b"Q,N,ABC,A,,,10.00,100\nF\nP\n", 12),
@@ -118,7 +118,7 @@ fn a_failed_read_leaves_the_answers_so_far(alloc: Global, setup: &Setup) -> Resu
 
 fn a_failed_write_or_flush_ends_the_script(alloc: Global, setup: &Setup) -> Result<(), Fail> {
     let broken = Some(ScriptFault::WriteFault);
-    // The first record has no answer, so nothing is written. The answer to each other one has 6 bytes.
+    // The first record has no answer, so nothing is written for it. The answer to each other one has 6 bytes.
     for (writes, flushes, fault, written) in [
         (0, 9, broken, 0),
         (1, 9, broken, 6),
@@ -149,7 +149,7 @@ fn no_record_follows_a_failed_read(alloc: Global) -> Result<(), Fail> {
     try_reads(&mut reader, &mut row)
 }
 
-/// A read succeeds, the next one fails, and then there is none.
+/// A read succeeds, the next one fails, and then there is nothing more to read.
 fn try_reads(reader: &mut Reader<Source<'_>>, row: &mut ByteRecord) -> Result<(), Fail> {
     for found in [Ok(true), Err(RecordFault::Failed), Ok(false)] {
         same(read_next(reader, row), found)?;

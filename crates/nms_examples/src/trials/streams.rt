@@ -3,7 +3,7 @@ use std::cell::Cell;
 use std::io;
 use std::io::{ErrorKind, Read, Write};
 
-/// Gives a text, then fails once if asked to, and then gives what follows.
+/// Gives a text, then fails once if asked to, and then gives another text.
 #[derive(Drop)]
 pub(super) struct Source<'a> {
     pub(super) text: &'a [u8],
@@ -25,7 +25,7 @@ impl<'a> Read for Source<'a> {
     }
 }
 
-/// Takes n more writes and flushes, and fails from then on. Reports how many bytes are out: written, and flushed since.
+/// Takes n more writes and flushes, and fails from then on. Reports how many bytes were written, and flushed since.
 #[derive(Drop)]
 pub(super) struct Pipe<'a> {
     pub(super) bytes: usize,
@@ -59,13 +59,13 @@ impl<'a> Write for Pipe<'a> {
     }
 }
 
-/// One less; a failure if there is none.
+/// The number less one; a failure if it is 0.
 fn one_less(left: usize) -> io::Result<usize> {
     left.checked_sub(1)
         .ok_or(io::Error::from(ErrorKind::BrokenPipe))
 }
 
-/// The sum of two counts of bytes; a failure if no count is as great.
+/// The sum of two counts of bytes; a failure if no count can hold it.
 pub(super) fn checked_sum(before: usize, more: usize) -> io::Result<usize> {
     before
         .checked_add(more)

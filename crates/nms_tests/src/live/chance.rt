@@ -13,7 +13,7 @@ use std::sync::atomic::{AtomicU64, Ordering};
 use std::thread;
 use std::thread::Threads;
 
-/// Up to 6 orders of some of the desks.
+/// Draws up to 6 orders of some of the desks.
 fn drawn_orders<R: Abort>(rt: &R, alloc: Global, chance: &mut Chance, desks: u32) -> Vec<Wanted> {
     let mut table = Vec::new(alloc);
     for _ in 0..chance.draw() % 7 {
@@ -31,7 +31,7 @@ fn drawn_orders<R: Abort>(rt: &R, alloc: Global, chance: &mut Chance, desks: u32
     table
 }
 
-/// Lets a desk's looks wait until n changes were sent, more for each look, or all.
+/// Makes a desk's looks wait until n changes were sent, more for each look, or all.
 #[derive(Drop)]
 struct Paced {
     sent: AtomicU64,
@@ -84,7 +84,7 @@ fn first_refusal(sent: &[Sent]) -> Option<LiveFault> {
     None
 }
 
-/// How many changes all feeds send.
+/// How many changes all feeds send together.
 fn all_of<R: Abort>(rt: &R, sent: &[Sent]) -> u64 {
     let mut all = 0u64;
     for own in sent {
@@ -95,7 +95,7 @@ fn all_of<R: Abort>(rt: &R, sent: &[Sent]) -> u64 {
     all
 }
 
-/// The fault that has to end the run, if one has.
+/// The fault that has to end the run, if there is one.
 fn due<R: Abort>(rt: &R, sent: &[Sent], limit: u64) -> Option<LiveFault> {
     match first_refusal(sent) {
         Some(fault) => Some(fault),
@@ -104,7 +104,7 @@ fn due<R: Abort>(rt: &R, sent: &[Sent], limit: u64) -> Option<LiveFault> {
     }
 }
 
-/// The limits of a setup: of the tape and of the queue, how many desks there are, and how many feeds.
+/// The limits of a setup: those of the tape and of the queue, how many desks there are, and how many feeds.
 #[derive(Clone, Copy)]
 pub(crate) struct Limits {
     pub(crate) tape: u32,
@@ -113,7 +113,7 @@ pub(crate) struct Limits {
     pub(crate) feeds: u8,
 }
 
-/// Limits that let some runs end in a full tape.
+/// Draws limits with which some runs end in a full tape.
 fn drawn_limits(chance: &mut Chance) -> Limits {
     let tape = if chance.draw() % 4 == 0 {
         (chance.draw() % 40).wrapping_add(1)
@@ -161,7 +161,7 @@ fn add_participant<R: Abort>(rt: &R, alloc: Global, text: &mut String, part: u8)
     text.push_str(entry.as_str()).expect(rt, "memory");
 }
 
-/// What is wrong with the result of a run, or nothing.
+/// What is wrong with the result of a run; empty if nothing is.
 fn judged(
     alloc: Global,
     setup: &str,
@@ -180,7 +180,7 @@ fn judged(
     }
 }
 
-/// Draws a run and makes it: what is wrong with its result, or nothing.
+/// Draws a run and makes it. Returns what is wrong with its result; empty if nothing is.
 fn try_run<R: Threads + Wait + Abort + Sync>(
     rt: &R,
     alloc: Global,
@@ -227,7 +227,7 @@ fn texts_of<'s, R: Abort>(rt: &R, alloc: Global, sent: &'s [Sent]) -> Vec<&'s [u
     texts
 }
 
-/// Makes the run over a setup's text: what is wrong with its result, if this fault has to end it.
+/// Makes the run over a setup's text. Returns what is wrong with its result, if this fault has to end it.
 fn try_under<R: Threads + Wait + Abort + Sync>(
     rt: &R,
     alloc: Global,
@@ -247,7 +247,7 @@ fn try_under<R: Threads + Wait + Abort + Sync>(
     judged(alloc, setup, sent, table, &came_to, due)
 }
 
-/// 200 runs of one to eight feeds: the result of each equals that of a plain slow program.
+/// Makes 200 runs of one to eight feeds. The result of each equals that of a plain slow program.
 #[test]
 fn random_runs_come_to_what_their_feeds_say(rt: HostRuntime) {
     let mut chance = Chance { state: 611 };

@@ -1,4 +1,4 @@
-//! Random texts of feeds, and the changes that they say.
+//! Random texts of feeds, and the changes that they give.
 use crate::chance::Chance;
 use nms_lines::LineFault;
 use nms_quote::{Change, Feed, Part, QState, SideQuote, Sym};
@@ -6,8 +6,8 @@ use nms_units::{Lot, Price, Shares};
 use std::alloc::Global;
 use std::process::Abort;
 
-/// A record in numbers. For each side: the cents over 10 dollars, below 10, and the shares; for a new round lot: its place
-/// among those that are drawn.
+/// A record in numbers. For each side it has the cents over 10 dollars, below 10, and the shares. For a new round lot it has
+/// the place among those that are drawn.
 #[derive(Clone, Copy)]
 struct Record {
     kind: u32,
@@ -19,14 +19,14 @@ struct Record {
     lot: u32,
 }
 
-/// Cents and shares of a side; with 0 shares there is no quotation.
+/// Draws the cents and shares of a side. With 0 shares there is no quotation.
 fn drawn_side(chance: &mut Chance) -> (u32, u32) {
     let cents = chance.draw() % 10;
     let shares = (chance.draw() % 4).wrapping_mul(150);
     (cents, shares)
 }
 
-/// A record of a feed: of one of its two participants, or a new round lot, which only feed A brings.
+/// Draws a record of a feed. It is of one of its two participants, or a new round lot, which only feed A has.
 fn drawn_record(chance: &mut Chance, feed: Feed) -> Record {
     let first = feed.place().wrapping_mul(2);
     let kinds = if feed == Feed::A { 18 } else { 16 };
@@ -48,7 +48,7 @@ fn drawn_record(chance: &mut Chance, feed: Feed) -> Record {
     }
 }
 
-/// A new round lot, and the field or the fields that say it: averages stand at each boundary.
+/// A new round lot, and its field or fields. There are averages at each boundary.
 fn lot_of(place: u32) -> (u16, &'static str) {
     match place {
         0 => (1, "1"),
@@ -66,7 +66,7 @@ fn lot_of(place: u32) -> (u16, &'static str) {
     }
 }
 
-/// A state, and the field that says it.
+/// A state, and its field.
 fn state_of(state: u32) -> (QState, &'static str) {
     match state {
         0..=5 => (QState::Automated, "A"),
@@ -75,7 +75,7 @@ fn state_of(state: u32) -> (QState, &'static str) {
     }
 }
 
-/// What is quoted on a side.
+/// The quotation of a side.
 fn side_of((cents, shares): (u32, u32)) -> Option<SideQuote> {
     let price = cents.wrapping_mul(100).wrapping_add(100_000);
     SideQuote::new(Price::new(u64::from(price))?, Shares::new(shares)?)
@@ -175,7 +175,8 @@ fn add_text<R: Abort>(rt: &R, text: &mut Vec<u8>, record: &Record) {
     }
 }
 
-/// A record that is refused: the text before the participant, whether it is of the feed, the text after, and the fault.
+/// A record that is refused: the text before the participant, whether the participant is of the feed, the text after it, and
+/// the fault.
 fn refused(number: u32) -> (&'static str, bool, &'static str, LineFault) {
     match number {
         0 => ("T,", true, "", LineFault::UnknownKind),
@@ -210,7 +211,7 @@ fn refused_lot(number: u32, feed: Feed) -> (&'static str, LineFault) {
     }
 }
 
-/// A participant of the feed, or of the one before it; for feed A that is feed B.
+/// A participant of the feed, or of the feed before it; before feed A that is feed B.
 fn named(feed: Feed, is_own: bool) -> &'static str {
     let place = match (is_own, feed) {
         (true, _) => feed.place(),
@@ -233,7 +234,7 @@ fn add_refused_text<R: Abort>(rt: &R, text: &mut Vec<u8>, number: u32, feed: Fee
     }
 }
 
-/// A feed's text, the changes that it says up to the first record that is refused, and why that one is.
+/// A feed's text, its changes up to the first record that is refused, and why that one is.
 #[derive(Drop)]
 pub(crate) struct Sent {
     pub(crate) text: Vec<u8>,
@@ -241,7 +242,8 @@ pub(crate) struct Sent {
     pub(crate) fault: Option<LineFault>,
 }
 
-/// The end of a line: of one in eight it is `\r\n`, of another a blank line follows.
+/// The end of a line. One in eight is `\r
+/// `, and after another one there is a blank line.
 fn end_of(end: u32) -> &'static str {
     match end {
         0 => "\r\n",
@@ -278,7 +280,7 @@ fn add_refused<R: Abort>(rt: &R, chance: &mut Chance, feed: Feed, is_alone: bool
     }
 }
 
-/// How many records a feed has.
+/// Draws how many records a feed has.
 fn drawn_count(chance: &mut Chance) -> u32 {
     let count = chance.draw();
     match chance.draw() % 4 {
@@ -288,7 +290,7 @@ fn drawn_count(chance: &mut Chance) -> u32 {
     }
 }
 
-/// What a feed sends. A third of the feeds have refused records, and fewer do if there are many feeds.
+/// Draws what a feed sends. A third of the feeds have refused records, and fewer do if there are many feeds.
 fn drawn_feed<R: Abort>(rt: &R, alloc: Global, chance: &mut Chance, feed: Feed, feeds: u8) -> Sent {
     let mut sent = Sent {
         text: Vec::new(alloc),
@@ -311,7 +313,7 @@ fn drawn_feed<R: Abort>(rt: &R, alloc: Global, chance: &mut Chance, feed: Feed, 
     sent
 }
 
-/// What each of n feeds sends.
+/// Draws what each of n feeds sends.
 pub(crate) fn drawn_feeds<R: Abort>(
     rt: &R,
     alloc: Global,

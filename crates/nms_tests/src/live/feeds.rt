@@ -42,9 +42,9 @@ fn place_in(tape: &[Change], part: u8) -> Option<usize> {
     tape.iter().position(|change| change.part().map(|part| part.get()) == Some(part))
 }
 
-/// What Y sends.
+/// The text that Y sends.
 const OF_Y: &[u8] = b"Q,Y,ABC,A,,,10.01,200\n";
-/// What Z sends.
+/// The text that Z sends.
 const OF_Z: &[u8] = b"Q,Z,ABC,A,,,10.02,100\n";
 
 #[test]
@@ -135,7 +135,7 @@ fn changes_of<R: Abort>(rt: &R, alloc: Global, part: &str, count: u32) -> Vec<u8
     text
 }
 
-/// Lets no feed go on before its last change was published: so each change is published alone, or nearly so.
+/// Lets no feed go on before its last change was published, so that each change is published separately, or nearly so.
 #[derive(Drop)]
 struct Stepped {
     published: std::sync::atomic::AtomicU64,
@@ -158,7 +158,7 @@ impl Gate for Stepped {
     }
 }
 
-/// An order of each of 16 desks.
+/// One order for each of 16 desks.
 fn orders_of_all<R: Abort>(rt: &R, alloc: Global) -> Vec<Wanted> {
     let mut table = Vec::new(alloc);
     for desk in 0..16u8 {

@@ -1,4 +1,4 @@
-//! The calls to a gate: before each send, look and publishing of the run once, and after it.
+//! Counting the calls to a gate, which come before each send, look and publishing of the run once, and after it.
 use super::worked::{FIVE, first_told, order};
 use super::{Wanted, run, setup_text};
 use crate::same::same;
@@ -66,7 +66,7 @@ fn compare_counts<R: Abort>(rt: &R, gate: &Counting, live: &Live) {
     same(rt, (asked, told), (3, 3));
 }
 
-/// After a send, a publishing and a look it holds the thread until the next one of them was made. So that one finds the one
+/// After a send, a publishing and a look it holds the thread until the next one of them was made. So the next one finds the one
 /// before it made.
 #[derive(Drop)]
 struct Relay {
@@ -145,8 +145,8 @@ fn a_gate_learns_of_what_was_made(rt: HostRuntime) {
     compare_relayed(&rt, &gate, &live.answers);
 }
 
-/// The first send was taken and published while the feed waited; the look showed it, and not the second one, while
-/// the taker waited; the second one was published while the desk waited.
+/// Compares the result. The first send was taken and published while the feed waited. The look showed it, and not the second
+/// one, while the taker waited. The second one was published while the desk waited.
 fn compare_relayed<R: Abort>(rt: &R, gate: &Relay, answers: &[Answer]) {
     same(rt, is_set(&gate.gave_up), false);
     same(rt, first_told(answers), Some((0, 0, 1, 100)));

@@ -9,7 +9,7 @@ use nms_live::{Answer, Live};
 use nms_quote::Change;
 use std::alloc::Global;
 
-/// The place of the feed that a change has to come from: two participants to a feed, and a new round lot is of feed A.
+/// The place of the feed on which a change has to come. There are two participants to a feed, and a new round lot is of feed A.
 fn feed_of(change: &Change) -> usize {
     match *change {
         Change::Quote { part, .. } | Change::State { part, .. } | Change::Withdraw { part } =>
@@ -44,7 +44,7 @@ fn is_merge(tape: &[Change], sent: &[Sent]) -> bool {
     others == 0
 }
 
-/// The most changes that are appended between two publishings: the number of the rule, not of the program.
+/// The most changes that are appended between two publishings. It is the number of the rule, not of the program.
 const MOST_BETWEEN: u64 = 64;
 
 /// Whether each publishing shows up to 64 changes more than the one before it, and the last one shows all of them. Only the
@@ -115,7 +115,7 @@ fn are_published(answers: &[Answer], published: &[u64]) -> bool {
     true
 }
 
-/// Whether each answer is on the version of this length.
+/// Whether each answer is on the version with this length.
 fn are_all_on(answers: &[Answer], all: u64) -> bool {
     for answer in answers {
         if answer.plan.version != all {
@@ -134,8 +134,8 @@ fn apply_first(boards: &mut Boards, tape: &[Change], count: u64) {
     }
 }
 
-/// Whether the checker confirms an answer on what an empty board shows after the first changes of the tape, as many
-/// as the answer's version says.
+/// Whether the checker confirms an answer on an empty board after the first changes of the tape. Their number is the answer's
+/// version.
 fn is_confirmed_on(mut boards: Boards, fees: &FeeBook, tape: &[Change], answer: &Answer) -> bool {
     let plan = &answer.plan;
     apply_first(&mut boards, tape, plan.version);
@@ -143,8 +143,8 @@ fn is_confirmed_on(mut boards: Boards, fees: &FeeBook, tape: &[Change], answer: 
     confirm(&view, &plan.order, fees, plan, &answer.certificate).is_ok()
 }
 
-/// Whether the checker confirms an answer on a board of its own, and a plain look at each earlier change shows what the
-/// answer's legs take.
+/// Whether the checker confirms an answer on another board, and a plain look at each earlier change shows what the answer's
+/// legs take.
 fn is_confirmed(alloc: Global, setup: &Setup, tape: &[Change], answer: &Answer) -> bool {
     match Boards::new(alloc, setup.roster()) {
         Ok(boards) => {
@@ -164,7 +164,7 @@ fn are_confirmed(alloc: Global, setup: &Setup, tape: &[Change], answers: &[Answe
     true
 }
 
-/// What is wrong with the tape and its publishings, or nothing.
+/// What is wrong with the tape and its publishings; empty if nothing is.
 fn tape_finding(tape: &[Change], published: &[u64], sent: &[Sent]) -> &'static str {
     if !is_merge(tape, sent) {
         "the tape is no merge of what was sent"
@@ -175,7 +175,7 @@ fn tape_finding(tape: &[Change], published: &[u64], sent: &[Sent]) -> &'static s
     }
 }
 
-/// What is wrong with the answers, or nothing.
+/// What is wrong with the answers; empty if nothing is.
 fn answer_finding(
     answers: &[Answer],
     closing: &[Answer],
@@ -196,7 +196,7 @@ fn answer_finding(
     }
 }
 
-/// What is wrong with a run over a setup's text, or nothing, if the feeds sent these changes.
+/// What is wrong with a run over a setup's text, if the feeds sent these changes; empty if nothing is.
 pub(crate) fn finding(
     alloc: Global,
     setup: &str,
@@ -210,7 +210,7 @@ pub(crate) fn finding(
     }
 }
 
-/// What is wrong with a run, or nothing.
+/// What is wrong with a run; empty if nothing is.
 fn finding_under(
     alloc: Global,
     setup: &Setup,

@@ -1,4 +1,4 @@
-//! Round lots that change while desks look, by values worked out by hand.
+//! Round lots that change while desks look, with values worked out by hand.
 use super::worked::{order, told};
 use super::{Wanted, run};
 use crate::same::same;
@@ -11,7 +11,7 @@ use std::sync::Wait;
 use std::sync::atomic::{AtomicU64, Ordering};
 use std::thread::Threads;
 
-/// Lets feed A and a desk take turns: each look is made on what was published after one change more.
+/// Makes feed A and a desk take turns. Each look is made on what was published after one more change.
 #[derive(Drop)]
 struct Turns {
     looked: AtomicU64,
@@ -40,8 +40,8 @@ impl Gate for Turns {
     }
 }
 
-/// N offers 290 shares and P offers 250 at the same price. Under a lot of 100 both show 200, and N was first; under one of 40 N
-/// shows 280 and P 240; under one of 300 neither shows; under one of 10, by an average, both show all.
+/// N offers 290 shares and P offers 250 at the same price. Under a lot of 100 both show 200, and N was first. Under one of 40 N
+/// shows 280 and P 240. Under one of 300 neither shows. Under one of 10, by an average, both show all.
 const FEED: &[u8] =
     b"Q,N,ABC,A,,,10.00,290\nQ,P,ABC,A,,,10.00,250\nR,ABC,40\nR,ABC,300\nR,PNY,1\nR,ABC,AVG,10000.0000\n";
 
@@ -65,7 +65,7 @@ fn shares_to(legs: &[Leg], part: u8) -> u32 {
     0
 }
 
-/// What an answer takes from N and from P.
+/// How many shares an answer takes from N and from P.
 fn taken(answer: &Answer) -> (u32, u32) {
     let legs = answer.plan.legs.as_slice();
     (shares_to(legs, 0), shares_to(legs, 1))

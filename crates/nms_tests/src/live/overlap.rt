@@ -10,7 +10,7 @@ use std::process::Abort;
 use std::sync::atomic::{AtomicBool, Ordering};
 use std::thread;
 
-/// A place where a thread waits for the others.
+/// A meeting at which a thread waits for the others.
 #[derive(Drop)]
 struct Meeting {
     there: AtomicBool,
@@ -115,7 +115,7 @@ fn missed(meeting: &Meeting) -> bool {
     !is_set(&meeting.there) || is_set(&meeting.gave_up)
 }
 
-/// Whether the answers are these, and there are no more.
+/// Whether the answers are these, and no others.
 fn are_told(answers: &[Answer], wanted: [(u8, usize, u64, u32); 2]) -> bool {
     let [first, second] = wanted;
     match answers {

@@ -55,8 +55,7 @@ fn changes<R: Abort>(rt: &R, alloc: Global, more: u64) -> Vec<u8> {
     text
 }
 
-/// The publishings if feed A sends one change and then more, all of these while the taker is held, through a lane of that
-/// capacity.
+/// The publishings if feed A sends one change and then more, all while the taker is held, through a lane of that capacity.
 fn published<R: Threads + Wait + Abort + Sync>(
     rt: &R,
     alloc: Global,
@@ -67,7 +66,7 @@ fn published<R: Threads + Wait + Abort + Sync>(
     published_under(rt, alloc, setup.as_str(), more)
 }
 
-/// As above, over a setup's text.
+/// As `published`, over a setup's text.
 fn published_under<R: Threads + Wait + Abort + Sync>(
     rt: &R,
     alloc: Global,
@@ -86,7 +85,7 @@ fn published_under<R: Threads + Wait + Abort + Sync>(
 #[test]
 fn the_taker_publishes_after_64_changes_and_when_the_lane_is_empty(rt: HostRuntime) {
     let lengths = published(&rt, rt.alloc(), 1024, 200).expect(&rt, "a run");
-    // The first change alone; 64 at a time of those in the lane; the 8 that were left; the end.
+    // These are the first change, then 64 at a time of those in the lane, then the 8 that were left, and the end.
     let due = [1u64, 65, 129, 193, 201, 201];
     same(&rt, lengths.as_slice(), due.as_slice());
 }

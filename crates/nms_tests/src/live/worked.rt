@@ -1,4 +1,4 @@
-//! Runs of a few changes, by values worked out by hand.
+//! Runs of a few changes, with values worked out by hand.
 use super::{Wanted, run, setup_text};
 use crate::same::same;
 use nms_fees::{SETUP_K, read_setup};
@@ -10,17 +10,17 @@ use std::process::Abort;
 use std::sync::Wait;
 use std::thread::Threads;
 
-/// What N and P send.
+/// The text that N and P send.
 pub(crate) fn feed_a() -> &'static [u8] {
     b"Q,N,ABC,A,,,10.00,300\nQ,P,ABC,A,,,10.00,500\n"
 }
 
-/// What Y and Z send.
+/// The text that Y and Z send.
 pub(crate) fn feed_b() -> &'static [u8] {
     b"Q,Y,ABC,A,,,10.01,200\nQ,Z,ABC,A,,,10.02,100\n"
 }
 
-/// Desk 0 buys 600 ABC at 10.01 or better.
+/// The order of desk 0, which buys 600 ABC at 10.01 or better.
 pub(crate) fn order() -> Wanted {
     Wanted {
         desk: 0,
@@ -32,13 +32,13 @@ pub(crate) fn order() -> Wanted {
     }
 }
 
-/// What an answer says: its desk, its number, its version and the shares filled.
+/// The facts of an answer: its desk, its number, its version and the shares filled.
 pub(crate) fn told(answer: &Answer) -> (u8, usize, u64, u32) {
     let plan = &answer.plan;
     (answer.desk, answer.number, plan.version, plan.filled)
 }
 
-/// What the first of the answers says.
+/// The facts of the first answer.
 pub(crate) fn first_told(answers: &[Answer]) -> Option<(u8, usize, u64, u32)> {
     match answers.first() {
         Some(answer) => Some(told(answer)),
@@ -52,7 +52,7 @@ fn place_of(tape: &[Change], part: u8) -> Option<usize> {
     tape.iter().position(|change| change.part() == Some(part))
 }
 
-/// Whether none is below the one before it.
+/// Whether no number is below the one before it.
 pub(crate) fn never_falls(numbers: &[u64]) -> bool {
     let mut last = 0;
     for number in numbers {
@@ -64,7 +64,7 @@ pub(crate) fn never_falls(numbers: &[u64]) -> bool {
     true
 }
 
-/// Whether the tape has the four changes, those of a feed in its order, and the whole of it was published at last.
+/// Whether the tape has the four changes, those of a feed in its order, and all of it was published at last.
 pub(crate) fn has_four(tape: &[Change], published: &[u64]) -> bool {
     tape.len() == 4
         && place_of(tape, 0) < place_of(tape, 1)
@@ -87,7 +87,7 @@ pub(crate) fn says_closing(alloc: Global, answer: &Answer) -> Option<bool> {
     }
 }
 
-/// As above, by the names of a roster.
+/// As `says_closing`, by the names of a roster.
 fn says_under(alloc: Global, roster: &Roster, answer: &Answer) -> Option<bool> {
     match read_plan(alloc, CLOSING, roster) {
         Ok((plan, certificate)) => Some(is_answered(answer, &plan, &certificate)),

@@ -1,4 +1,4 @@
-//! Where a breach stands in a plan (specs/BreachPlaces).
+//! The place of a breach in a plan (specs/BreachPlaces).
 ghost use Rattle.std.specs.Prelude.{◌≡◌, ◌<◌, ◌≤◌, Some, length, true};
 ghost use Rattle.nms_rules.specs.Breach.{breach_of, has_repeat};
 ghost use Rattle.nms_verdicts.specs.BreachPlaces.{IsBreachPlace, IsWorst};
@@ -14,7 +14,7 @@ use nms_quote::{Leg, Order, OrderSide, Plan, Sym};
 use nms_rules::{Breach, cost_of, sum_of};
 use nms_units::{Money, Price};
 
-/// Where a breach stands in a plan, what was found there, and what was expected.
+/// The place of a breach in a plan, what was found there, and what was expected.
 #[derive(Drop)]
 pub(crate) enum BreachPlace {
     /// P1: the plan's version, and the view's.
@@ -72,22 +72,22 @@ pub(crate) enum BreachPlace {
     },
     /// P11: the shares that the plan says are filled, and those of its legs.
     FilledWrong {
-        /// What the plan says.
+        /// The number in the plan.
         found: u32,
         /// The shares of all legs.
         expected: u64,
     },
-    /// P12: what the plan says that it costs, and what its legs cost with fees, in nanodollars.
+    /// P12: the cost in the plan, and the cost of its legs with fees, in nanodollars.
     CostWrong {
-        /// What the plan says.
+        /// The cost in the plan.
         found: Money,
-        /// What the legs cost, with the fees of the book.
+        /// The cost of the legs, with the fees of the book.
         expected: Money,
     },
 }
 
-/// Where the breach of a plan that `breach` of `nms_rules` reports stands: the first leg that has it, what was found
-/// and what was expected. Takes no memory. This product's own rule.
+/// The place of the breach that `breach` of `nms_rules` reports for a plan. It is the first leg that has the breach, with what
+/// was found and what was expected. Takes no memory. This product's own rule.
 pub(crate) fn breach_place(
     view: &View,
     order: &Order,

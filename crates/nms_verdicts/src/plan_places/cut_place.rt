@@ -16,10 +16,10 @@ pub(crate) struct CutPlace {
     pub(crate) cut: Cut,
 }
 
-/// What must be swept and may be taken at a cut's price, and what can be filled, in shares.
+/// How many shares must be swept and may be taken at a cut's price, and how many can be filled.
 #[derive(Clone, Copy)]
 pub(crate) struct CutSums {
-    /// All that can be filled: what was asked for, or what may be traded with if that is less.
+    /// How many shares can be filled: the number asked for, or what may be traded with if that is less.
     pub(crate) most: u64,
     /// The displayed sizes of the protected quotations at better prices, which must be swept first.
     pub(crate) swept: u64,
@@ -27,7 +27,7 @@ pub(crate) struct CutSums {
     pub(crate) pool: u64,
 }
 
-/// The cut of that number.
+/// The cut with that number.
 pub(crate) fn cut_place(cuts: &[Cut], number: usize) -> CutPlace
     requires within { number < length cuts.now }
     requires few { length cuts.now ≤ MOST_ROWS }

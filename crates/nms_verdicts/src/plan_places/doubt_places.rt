@@ -1,4 +1,4 @@
-//! Where a doubt stands in a plan or its certificate (specs/DoubtPlaces).
+//! The place of a doubt in a plan or its certificate (specs/DoubtPlaces).
 ghost use Rattle.std.specs.Prelude.{◌≡◌, ◌==◌, ◌≤◌, ◌||◌, Some, false, length, not, position, true};
 ghost use Rattle.std.specs.List.{find};
 ghost use Rattle.nms_rules.specs.Assignment.{fillable};
@@ -20,14 +20,14 @@ use nms_quote::{Certificate, Cut, CutKind, Order, OrderSide, Plan};
 use nms_rules::{Rank, UsableRow, fillable, least_cost, usable_rows};
 use nms_units::{MOST_SHARES, Money};
 
-/// Where a doubt stands in a plan or its certificate, what was found there, and what was expected.
+/// The place of a doubt in a plan or its certificate, what was found there, and what was expected.
 #[derive(Drop)]
 pub(crate) enum DoubtPlace {
-    /// K1: where the plan's breach stands.
+    /// K1: the place of the plan's breach.
     Breach(BreachPlace),
-    /// K2: what the plan fills, and the most that can be filled, in shares.
+    /// K2: the shares that the plan fills, and the most that can be filled.
     NotMost {
-        /// What the plan fills.
+        /// The shares that the plan fills.
         found: u32,
         /// The most that can be filled.
         expected: u64,
@@ -56,15 +56,15 @@ pub(crate) enum DoubtPlace {
     BoundFails {
         /// The cut.
         cut: CutPlace,
-        /// The least that a plan costs by that marginal, in nanodollars.
+        /// The least cost of a plan by that marginal, in nanodollars.
         bound: Money,
-        /// What the plan costs, in nanodollars, which is more.
+        /// The cost of the plan, in nanodollars, which is more.
         cost: Money,
     },
 }
 
-/// Where the doubt of a plan that `confirm` of `nms_cert` reports stands: in the plan or in its certificate, with what was
-/// found and what was expected. Takes no memory. This product's own rule.
+/// The place of the doubt that `confirm` of `nms_cert` reports for a plan. It is in the plan or in its certificate, with what
+/// was found and what was expected. Takes no memory. This product's own rule.
 pub(crate) fn doubt_place(
     view: &View,
     order: &Order,
@@ -89,7 +89,7 @@ pub(crate) fn doubt_place(
     }
 }
 
-/// Where a doubt of the cuts of a plan stands.
+/// The place of a doubt about the cuts of a plan.
 fn on_cuts(
     view: &View,
     order: &Order,
@@ -107,7 +107,7 @@ fn on_cuts(
     cuts_place(order.side, rows.as_slice(), most, plan.cost, cuts, doubt)
 }
 
-/// What a plan fills, and what it could.
+/// The number of shares that a plan fills, and the number that it could fill.
 fn short_place(view: &View, order: &Order, plan: &Plan, fees: &FeeBook) -> DoubtPlace
     requires { not (plan.now.filled == fillable (usable view.now order.now fees.now) order.now.shares) ≡ true }
     ensures { IsShort view.now order.now fees.now plan.now result }
@@ -119,7 +119,7 @@ fn short_place(view: &View, order: &Order, plan: &Plan, fees: &FeeBook) -> Doubt
     }
 }
 
-/// Where a doubt of the cuts stands.
+/// The place of a doubt about the cuts.
 fn cuts_place(
     side: OrderSide,
     rows: &[UsableRow],
@@ -251,7 +251,7 @@ fn bound_place(
     DoubtPlace::BoundFails { cut, bound, cost }
 }
 
-/// The least that a plan costs by a cut's marginal.
+/// The least cost of a plan by a cut's marginal.
 fn bound_at(side: OrderSide, rows: &[UsableRow], most: u64, at: &CutPlace) -> Money
     requires marginal { IsMarginal at.now.cut.kind }
     requires range { is_out_of_range at.now.cut.kind ≡ false }
@@ -262,7 +262,7 @@ fn bound_at(side: OrderSide, rows: &[UsableRow], most: u64, at: &CutPlace) -> Mo
     bound_of(rows, most, Rank::of(side, at.cut.price), at.cut.kind)
 }
 
-/// The least that a plan costs by a marginal.
+/// The least cost of a plan by a marginal.
 fn bound_of(rows: &[UsableRow], most: u64, cutoff: Rank, kind: CutKind) -> Money
     requires marginal { IsMarginal kind }
     requires range { is_out_of_range kind ≡ false }

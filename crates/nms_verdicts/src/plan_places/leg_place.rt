@@ -1,4 +1,4 @@
-//! A leg of a plan, and the quotation that it goes to (specs/LegPlaces).
+//! A leg of a plan, and the quotation to which it goes (specs/LegPlaces).
 ghost use Rattle.std.specs.Prelude.{◌≡◌, ◌<◌, ◌≤◌, length, slice_index_or};
 ghost use Rattle.nms_quote.specs.declared.plan.Leg.{Leg};
 ghost use Rattle.nms_verdicts.specs.LegPlaces.{IsLegPlace};
@@ -7,19 +7,19 @@ use nms_board::{MOST_ROWS, Row, View};
 use nms_quote::{Leg, OrderSide};
 use nms_rules::row_for;
 
-/// A leg of a plan, and the quotation that it goes to.
+/// A leg of a plan, and the quotation to which it goes.
 #[derive(Clone, Copy)]
 pub(crate) struct LegPlace {
     /// The leg's number in the plan, counted from 0: at most 31.
     pub(crate) number: u8,
     /// The leg as the plan has it.
     pub(crate) leg: Leg,
-    /// What its participant quotes on the side that the order trades with, if it quotes there: the price in 1/10,000
+    /// The quotation of its participant on the side that the order trades with, if there is one. The price is in 1/10,000
     /// dollar, the displayed size in shares.
     pub(crate) quotation: Option<Row>,
 }
 
-/// The leg of that number, with the quotation that it goes to.
+/// The leg with that number, with the quotation to which it goes.
 pub(crate) fn leg_place(view: &View, side: OrderSide, legs: &[Leg], number: usize) -> LegPlace
     requires within { number < length legs.now }
     requires few { length legs.now ≤ MOST_ROWS }

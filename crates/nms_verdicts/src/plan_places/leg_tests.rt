@@ -49,7 +49,7 @@ fn breaks(view: &View, order: &Order, breach: Breach, leg: &Leg) -> bool
     }
 }
 
-/// The numbers of the first leg with a later one to the same participant, and of the first such one.
+/// The numbers of the first leg with a later one to the same participant, and of the first such later one.
 pub(crate) fn repeat_in(legs: &[Leg]) -> (usize, usize)
     requires { has_repeat legs.now ≡ true }
     ensures before { result.0 < result.1 }

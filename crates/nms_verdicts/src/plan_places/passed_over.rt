@@ -10,8 +10,8 @@ use nms_quote::{Leg, Order, OrderSide};
 use nms_rules::{contra, given_to, is_better, is_traded_through};
 use nms_units::Price;
 
-/// A protected quotation that a plan trades through. Its participant is not named by the order, its price is better
-/// than the plan's worst, and it gets less than its displayed size (17 CFR 242.600, "trade-through").
+/// A protected quotation that a plan trades through. The order does not name its participant. Its price is better than the
+/// plan's worst, and it gets less than its displayed size (17 CFR 242.600, "trade-through").
 #[derive(Clone, Copy)]
 pub(crate) struct PassedOver {
     /// The quotation: its participant, its price in 1/10,000 dollar, its displayed size in shares.
@@ -20,7 +20,7 @@ pub(crate) struct PassedOver {
     pub(crate) given: u64,
 }
 
-/// The one that fills a list's unused places.
+/// The value that fills a list's unused places.
 impl Default for PassedOver {
     fn default() -> Self {
         PassedOver {

@@ -1,4 +1,4 @@
--- Of `alter`: what it asks of `settle` and `follow`, and its clauses, by `altered_is`, `ranks_altered` and `bests_altered`.
+-- `alter`: what it asks of `settle` and `follow`, and its clauses, by `altered_is`, `ranks_altered` and `bests_altered`.
 use Rattle.std.proofs.Common.{◌≡◌, ℕ, ◌+◌, ◌*◌, Option, get_or, refl, sym, ap, subst, ◌∙◌, arith}
 use Rattle.std.proofs.lemmas.Grind.{common_steps}
 use Rattle.std.proofs.lemmas.Option.{slice_get-get_or}

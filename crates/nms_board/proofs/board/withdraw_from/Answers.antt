@@ -1,4 +1,4 @@
--- Of `withdraw_from`: the invariant of its loop, by `change_cell_stays` if nothing is quoted, and what it asks of `alter`.
+-- `withdraw_from`: the invariant of its loop, by `change_cell_stays` if nothing is quoted, and what it asks of `alter`.
 use Rattle.std.proofs.Common.{◌+◌, ◌*◌, sym, ◌∙◌, ap, length, arith}
 use Rattle.std.proofs.lemmas.Grind.{common_steps}
 use Rattle.nms_quote.specs.Roster.{Sizes}

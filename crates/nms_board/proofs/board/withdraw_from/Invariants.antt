@@ -1,4 +1,4 @@
--- Of `withdraw_from`: what each turn keeps.
+-- `withdraw_from`: what each turn keeps.
 use Rattle.std.proofs.Common.{◌≡◌}
 use Rattle.nms_board.specs.Bests.{AreBests}
 use Rattle.nms_board.specs.Cells.{withdraw_from}

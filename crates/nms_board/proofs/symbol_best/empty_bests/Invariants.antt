@@ -3,6 +3,6 @@ use Rattle.std.proofs.Common.{◌≡◌, All, length}
 use Rattle.nms_board.specs.Bests.{HasNone}
 use Rattle.nms_board.proofs.symbol_best.empty_bests.Given as goal
 
--- as many as symbols so far, each with no row
+-- one for each symbol so far, each with no row
 abbrev pub invariant-loop : goal.invariant-loop
 invariant-loop l = record { symbols : length l.bests.items ≡ l.counter; empty : All HasNone l.bests.items }

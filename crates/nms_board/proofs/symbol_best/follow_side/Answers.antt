@@ -1,4 +1,4 @@
--- Of `follow_side`: its clause if the row stays, by `same_first` and `row_at_first`.
+-- `follow_side`: its clause if the row stays, by `same_first` and `row_at_first`.
 use Rattle.std.proofs.Common.{arith, ◌≡◌, ◌≢◌, ℕ, ap, subst, ◌∙◌}
 use Rattle.std.proofs.lemmas.Grind.{common_steps}
 use Rattle.nms_board.specs.Ranks.{first_place, row_among}

@@ -1,4 +1,4 @@
--- `read_live_input`: the words are as many as the files, and why a file was not read is why the whole was not.
+-- `read_live_input`: the arguments name the right number of files, and why a file was not read is why the input was not.
 use Rattle.std.proofs.Common.{arith, ◌≡◌, ◌+◌, length}
 use Rattle.std.proofs.lemmas.Grind.{common_steps}
 use Rattle.std.proofs.lemmas.Result.{IfOk-weaker}

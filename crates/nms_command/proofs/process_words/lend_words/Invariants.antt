@@ -1,5 +1,5 @@
 -- `lend_words`: what holds in each turn of its loop.
--- the words so far are lent in order
+-- the arguments so far are lent in order
 use Rattle.std.proofs.Common.{◌≡◌, map, take}
 use Rattle.std.specs.String.{string_bytes}
 use Rattle.nms_command.proofs.process_words.lend_words.Given as goal

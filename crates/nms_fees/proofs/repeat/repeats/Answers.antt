@@ -1,4 +1,4 @@
--- `repeats`: its result, by what stands before a name, from `NameLemmas`.
+-- `repeats`: its result, by the names before a name, from `NameLemmas`.
 use Rattle.std.proofs.Common.{arith, sym, ap, ◌∙◌}
 use Rattle.std.proofs.lemmas.Grind.{common_steps}
 use Rattle.nms_fees.proofs.NameLemmas.{repeated, learned, names_of-unnamed, texts}

@@ -1,4 +1,4 @@
--- `repeats`: no name stood twice so far, and the table has these names.
+-- `repeats`: no name was there twice so far, and the table has these names.
 use Rattle.std.proofs.Common.{◌≡◌, false, take}
 use Rattle.nms_fees.specs.Places.{has_repeat}
 use Rattle.nms_fees.proofs.NameLemmas.{names_of, texts}

@@ -1,4 +1,4 @@
--- `push_names`: the names of the members below the place were appended, and what stands before one more is known.
+-- `push_names`: the names of the members below the place were appended, and what is before one more is known.
 use Rattle.std.proofs.Common.{◌≡◌, ◌++◌}
 use Rattle.nms_lines.specs.Named.{members_below}
 use Rattle.nms_lines.proofs.NamedFacts.{before_next, text_below}

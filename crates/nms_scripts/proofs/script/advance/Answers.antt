@@ -19,7 +19,7 @@ returns-clause-came g c bytes old refused come =
     c.args.done refused (fields_of c.read.new.row) c.clear.new.self.items c.serve.new.out.items c.deref.result.now c.in-Ok.refused
     come found c.clear.ensures.items c.in-Ok.ensures.served c.in-Ok.ensures.room c.deref.ensures.value c.in_ok-tell_answer.ensures.written
 
--- the answers to what was read before stand
+-- the answers to what was read before stay
 pub returns-in_err-read-clause-came : goal.returns-in_err-read-clause-came
 returns-in_err-read-clause-came g c bytes old refused come =
     let stops = stops_after g.R.Read.remaining c.args.setup.now bytes c.args.reader.now c.args.script.now.flow old

@@ -1,4 +1,4 @@
--- `others_fault`: no key so far is one that may not stand there, so those that are left decide.
+-- `others_fault`: no key so far is one that is not allowed there, so those that are left decide.
 use Rattle.std.proofs.Common.{◌≡◌, not, string_bytes}
 use Rattle.std.specs.List.{list_any}
 use Rattle.nms_fees.specs.Places.{keys_in}

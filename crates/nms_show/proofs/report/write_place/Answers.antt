@@ -1,4 +1,4 @@
--- `write_place`: what stands before the items, and then the items.
+-- `write_place`: the part before the items, and then the items.
 use Rattle.nms_show.proofs.WriteFacts.{safe_writes}
 use Rattle.nms_show.proofs.report.write_place.Goals as goal
 

@@ -8,7 +8,7 @@ use Rattle.nms_stream.specs.Stream.{header, lines_behind}
 use Rattle.nms_stream.specs.Tapes.{sizes_in}
 use Rattle.nms_stream.proofs.streaming.stream_along.Given as goal
 
--- the follower stands after the changes so far, and their lines were sent or wait
+-- the follower is after the changes so far, and their lines were sent or wait
 abbrev pub invariant-loop-change : goal.invariant-loop-change
 invariant-loop-change g l = record {
   of : IsOf (sizes_in l.tape) l.follower;

@@ -1,4 +1,4 @@
--- `apart`: of two senders nothing is left after the two that come off.
+-- `apart`: nothing is left after the two senders that come off.
 use Rattle.std.proofs.Common.{◌≡◌, ◌++◌, ◌∷◌, [], List, length, ap, ◌∙◌, arith, length-append}
 use Rattle.std.proofs.lemmas.List.{nil_from_length}
 use Rattle.nms_feed.specs.Lane.{Sending}

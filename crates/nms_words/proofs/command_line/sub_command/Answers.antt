@@ -10,7 +10,7 @@ use Rattle.nms_words.specs.declared.subcommand.Sub.TheVariants.{Script, Report, 
 use Rattle.nms_words.proofs.Chains.{args_added, args_local}
 use Rattle.nms_words.proofs.command_line.sub_command.Goals as goal
 
--- the words of each subcommand stand one after the other
+-- the arguments of each subcommand follow one another
 ruled : (sub : Sub) → fold with_rule (new_app (name_of sub)) (rules_of_sub sub) ≡ app_of_sub sub
 ruled Script = refl
 ruled Report = refl

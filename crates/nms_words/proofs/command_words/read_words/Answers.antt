@@ -16,7 +16,7 @@ use Rattle.nms_words.proofs.command_words.read_words.Goals as goal
 abbrev texts : List (Bor Text) → List Text
 texts = map (λ word. word.now)
 
--- words that the parser takes are refused for memory alone
+-- arguments that the parser takes are refused only if out of memory
 answered : (result : Result Request WordsFault) (words : List Text) (asked : Asked) → IsTaken words asked
     → IfOk result (λ request. asked_by words ≡ Some (shown request))
     → (takes tool words ≡ true → IfErr result (λ fault. fault ≡ NoMemory))

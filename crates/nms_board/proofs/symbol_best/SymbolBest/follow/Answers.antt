@@ -1,4 +1,4 @@
--- Of `follow`: what it asks of each side, as it was asked of both.
+-- `follow`: what it asks of each side, as it was asked of both.
 use Rattle.nms_quote.specs.declared.side_quote.Side.TheVariants.{Bid, Offer}
 use Rattle.nms_board.proofs.symbol_best.SymbolBest.follow.Goals as goal
 

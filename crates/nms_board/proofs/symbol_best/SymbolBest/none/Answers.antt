@@ -1,4 +1,4 @@
--- Of `SymbolBest::none`: neither side has a row.
+-- `SymbolBest::none`: neither side has a row.
 use Rattle.nms_board.proofs.BestLemmas.{none_on_both}
 use Rattle.nms_board.proofs.symbol_best.SymbolBest.none.Goals as goal
 

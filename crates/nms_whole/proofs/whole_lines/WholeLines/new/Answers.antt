@@ -1,4 +1,4 @@
--- `new`: what is passed on from the beginning is the whole lines.
+-- `new`: what is passed on from the beginning is the complete lines.
 use Rattle.nms_whole.proofs.ReadFacts.{from_first}
 use Rattle.nms_whole.proofs.whole_lines.WholeLines.new.Goals as goal
 
