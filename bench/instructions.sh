@@ -8,7 +8,7 @@ set -eu
 . "$(dirname "$0")/loads.sh"
 [ $# -gt 0 ] || set -- quotes wide looks withdraws sweeps
 
-# Instructions of a whole run.
+# Instructions of a complete run.
 instructions() {
     valgrind --tool=callgrind --callgrind-out-file=/dev/null \
         "$program" script --setup "$1/setup.toml" <"$1/load.csv" 2>&1 >/dev/null | awk '/Collected/ { print $NF }'

@@ -1,6 +1,6 @@
 #!/usr/bin/env bash
 # Prints the processor time of a change through a lane of 4, 64 and 1,024, from two threads and from eight to a taker,
-# beside the same in ordinary Rust over the upstream queue (bench/lane_peer). The best of RUNS runs counts (15 if it
+# next to the same in ordinary Rust over the upstream queue (bench/lane_peer). The best of RUNS runs counts (15 if it
 # is not set), of CHANGES changes in all (1,000,000). Needs cargo and Debian's librust-crossbeam-queue-dev.
 set -eu
 . "$(dirname "$0")/peers.sh"

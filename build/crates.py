@@ -45,11 +45,11 @@ ARCHIVE = "nms_c"
 EMPTY_CONTRACTS = 1.2
 # The longest silence, in seconds.
 SILENCE = 30
-# The verdicts of proofs in this clone: of each the sum of what the crate stands on, that of the toolchain, the crate and the line.
+# The verdicts of proofs in this clone: for each the sum of the crates below it, that of the toolchain, the crate and the line.
 VERDICTS = f"{TOP}/build/out/verdicts"
 # The call by which a process asks for a signal when its parent ends (prctl).
 PR_SET_PDEATHSIG = 1
-# The programs beside the library.
+# The programs, without the library.
 PROGRAMS = ("nms_examples", "nms_review", "nms_serve", "nms_tool")
 
 
@@ -86,7 +86,7 @@ def lanes():
 
 
 def sums(*names):
-    """The two checksums of each crate by build/sums: its own, and that of all that it stands on."""
+    """The two checksums of each crate by build/sums: its own, and that of all crates below it."""
     ran = subprocess.run([f"{TOP}/build/sums", *names], stdout=subprocess.PIPE, check=True, text=True)
     return {name: (own, whole) for name, own, whole in map(str.split, ran.stdout.splitlines())}
 
@@ -118,7 +118,7 @@ class Plan:
         return sum(self.times.get(name, (60.0, 100))[1] for name in self.all) / 1000
 
     def processor(self):
-        """Seconds of processor of the whole."""
+        """Seconds of processor for everything."""
         return sum(map(self.seconds, self.all))
 
     @functools.cache
@@ -147,7 +147,7 @@ def furnish(room, names):
 
 
 def furnished(room, names, wanted):
-    """Furnishes a folder with crates, and gives the sum of what each wanted one stands on: that of the copies."""
+    """Furnishes a folder with crates, and gives the sum of the crates below each wanted one, as copied."""
     wholes = wholes_of(wanted)
     furnish(room, names)
     if wholes_of(wanted) != wholes:
@@ -191,7 +191,7 @@ def verdicts(said):
 
 
 def note(found, wholes):
-    """Notes verdicts, each with the sum of what its crate stands on. Each line is one write, so that two builds mix none."""
+    """Notes verdicts, each with the sum of the crates below its crate. Each line is one write, so that two builds mix none."""
     os.makedirs(os.path.dirname(VERDICTS), exist_ok=True)
     kit = toolchain_sum()
     with open(VERDICTS, "a", encoding="utf-8") as file:
@@ -199,7 +199,7 @@ def note(found, wholes):
 
 
 def note_built(file, whole):
-    """Notes beside a file of what it was built, and by which toolchain: the launchers run it while both are the same."""
+    """Notes next to a file of what it was built, and by which toolchain: the launchers run it while both are the same."""
     with open(f"{file}.built_of", "w", encoding="ascii") as to:
         to.write(f"{whole} {toolchain_sum()}\n")
 
@@ -283,7 +283,7 @@ def soname():
 
 
 def place(made, to):
-    """Brings a file that was built to its place, whole: one that runs there goes on. What was noted of the earlier one goes first."""
+    """Brings a file that was built to its place in one step: one that runs there goes on. What was noted of the earlier one goes first."""
     with contextlib.suppress(FileNotFoundError):
         os.remove(f"{to}.built_of")
     shutil.copy(made, f"{to}.new")
@@ -361,7 +361,7 @@ class Build:
 
 
 def note_gate(log, before):
-    """Notes what `rt ci` proved in this repository, and beside each program of what it was built, as a first build does. `before` are the
+    """Notes what `rt ci` proved in this repository, and next to each program of what it was built, as a first build does. `before` are the
     sums before it ran: a crate whose sources changed meanwhile is left out."""
     found = sums()
     same = {name: whole for name, (own, whole) in found.items() if f"{name} {own} {whole}" in before.splitlines()}

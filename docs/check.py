@@ -28,7 +28,7 @@ PAGE_TEXT = "crates/nms_drawing/src/page_text.rt"
 
 # Lines and words of the front page, and words of a sentence there.
 MOST_LINES, MOST_FRONT, MOST_WORDS = 130, 900, 25
-# How often a word of this repository's own dialect may be in all pages together.
+# How often a word of this repository's own dialect may be in all pages together, and in all comments of the crates.
 MOST_DIALECT = 5
 # Columns of a definition or a proof.
 MOST_COLUMNS = 148
@@ -72,7 +72,7 @@ PORTED = set(re.findall(r"[a-z]\w+", re.sub(r"#.*|\w+=\S+", "", read("crates.txt
 
 
 def source(file):
-    """A source without its comments, in which names of things that are gone may stand."""
+    """A source without its comments, in which there may be names of things that are gone."""
     return re.sub(r"--[^\n]*" if file.endswith(".antt") else r"//[^\n]*", "", read(file))
 
 
@@ -224,13 +224,12 @@ def check_codes():
                 check(letter + number in CODES, page, f"no code {letter}{number}")
     text = read("crates/nms_words/src/help_text.rt")
     helped = re.findall(r"^  ([A-Z]\d+) ", text, re.M)
-    coded = (row[CELLS] for row in rows(prose("docs/ERRORS.md")) if re.fullmatch(r"[A-Z]\d+", row[CELLS][0]))
-    told = [(cells[0], SPAN.findall(cells[1])) for cells in coded]
+    told = [(code, [name]) for code, name, _ in coded_items()]
     for code in sorted(CODES):
-        # Those of imports, comparisons, times and executions are of the reviewer's program alone, whose help names none.
+        # Those of imports, comparisons, times and executions are only of the reviewer's program, whose help names none.
         if code[0] not in "HIJMX":
             check(helped.count(code) == 1, "the help", f"{code} stands there {helped.count(code)} times")
-        check([it for it, _ in told].count(code) == 1, "docs/ERRORS.md", f"{code} has {[it for it, _ in told].count(code)} rows")
+        check([it for it, _ in told].count(code) == 1, "docs/ERRORS.md", f"{code} has {[it for it, _ in told].count(code)} items")
     for code in helped:
         check(code in CODES, "the help", f"no code {code}")
     worded = "".join(read(f"crates/{it}.rt") for it in ("nms_codes/src/code", "nms_explain/src/execution_code", "nms_explain/src/other_codes"))
@@ -241,13 +240,17 @@ def check_codes():
     check_remedies()
 
 
+def coded_items():
+    """The items of ERRORS.md: the code, its name, and what is said about it."""
+    return re.findall(r"^- \*\*([A-Z]\d+)\*\* `(\w+)`: (.*)$", prose("docs/ERRORS.md"), re.M)
+
+
 def check_remedies():
-    """The remedies of `nms_codes` are those of ERRORS.md: each is part of the row of its code, or of the row which that names."""
+    """The remedies of `nms_codes` are those of ERRORS.md: each is part of the item of its code, or of the item which that names."""
     page, said, out_of_memory = "docs/ERRORS.md", {}, set()
-    for row in rows(prose("docs/ERRORS.md")):
-        code = row[CELLS][0]
-        said[code] = said.get(code, "") + re.sub(r"\[([^]]*)\]\([^)]*\)", r"\1", row[CELLS][-1])
-        out_of_memory |= {code} if "`NoMemory`" in row[CELLS][1] else set()
+    for code, name, text in coded_items():
+        said[code] = said.get(code, "") + re.sub(r"\[([^]]*)\]\([^)]*\)", r"\1", text)
+        out_of_memory |= {code} if name == "NoMemory" else set()
     for arm, remedy in REMEDIES:
         for code in sorted(set(re.findall(r"Code::([A-Z]\d+)\b", arm)) - out_of_memory):
             told = said.get(code, "")
@@ -315,7 +318,7 @@ def check_made():
     for name, it in sorted(claims.tree().items()):
         if it.functions and name not in ("nms_examples", "nms_tests"):
             check("`" in claims.printed(name), CLAIMS, f"it prints no claim of `{name}`")
-    check(read(keys.PAGE) == keys.page(), keys.PAGE, "docs/keys.py --write writes its table of keys otherwise")
+    check(read(keys.PAGE) == keys.page(), keys.PAGE, "docs/keys.py --write writes its list of keys otherwise")
     check(read("docs/crates.svg") == draw_crates.drawn(), "docs/crates.svg", "docs/draw_crates.py draws another picture")
     check(read(PAGE_TEXT) == join.source(), PAGE_TEXT, "page/join.py writes another text")
     page = "docs/ARCHITECTURE.md"
@@ -342,7 +345,7 @@ def check_imports():
 
 
 def check_proofs():
-    """A line of a definition or a proof can be read whole, and a file of answers says which function and clause it is for."""
+    """A line of a definition or a proof fits a screen, and a file of answers says which function and clause it is for."""
     for file in sorted(it for it in FILES if it.endswith(".antt")):
         text = read(file)
         widest = max(map(len, text.split("\n")))
@@ -447,18 +450,39 @@ def plain(page, allowed):
     return text
 
 
+def commented(file, terms):
+    """The comments of a source, one a line, without what is in backquotes and without the terms that are right."""
+    blocks = re.findall(r"(?:^[ \t]*(?:--|//[/!]?).*\n)+", read(file), re.M)
+    text = "\n".join(" ".join(re.sub(r"^[ \t]*(?:--|//[/!]?)", "", it, flags=re.M).split()) for it in blocks)
+    text = re.sub(r"`[^`\n]+`", "_", text)
+    for right in sorted(terms, key=len, reverse=True):
+        text = text.replace(right, "")
+    return text
+
+
+def check_dialect(where, texts, words, better):
+    """Some texts have the words of a line of the dialect at most five times together."""
+    # A word with a capital letter is one that begins a sentence.
+    pattern = "|".join(map(re.escape, words.split(", ")))
+    fronted = re.compile(rf"\b(?:{pattern})\b", re.I) if words.islower() else re.compile(rf"^\W*(?:{pattern})\b")
+    found = [(name, sentence) for name, text in texts.items() if words.islower() is False or fronted.search(text)
+             for sentence in sentences(text) for _ in fronted.findall(sentence)]
+    check(len(found) <= MOST_DIALECT, where, f"`{words}` {len(found)} times, better `{better}`: " + "; ".join(f"{name}: {it[:60]}" for name, it in found))
+
+
 def check_plain():
-    """The pages have none of the words of docs/words_to_avoid.txt, and those of its dialect at most five times in all of them."""
+    """The pages have none of the words of docs/words_to_avoid.txt, and those of its dialect at most five times in all of them; so
+    do the comments of the crates."""
     lines = [it for it in read("docs/words_to_avoid.txt").split("\n") if it and not it.startswith("#")]
     allowed = [it[1:].strip() for it in lines if it.startswith("+")]
-    listed = [it.split(": ", 1) for it in lines if it[0] not in "+~"]
+    listed = [it.split(": ", 1) for it in lines if it[0] not in "+=~"]
     texts = {page: plain(page, allowed) for page in PAGES}
+    terms = allowed + [it[1:].strip() for it in lines if it.startswith("=")]
+    said = {file: commented(file, terms) for file in sorted(FILES) if re.fullmatch(r"crates/\w+/(src|specs|proofs)/.*\.(rt|antt)", file)}
+    said.pop(PAGE_TEXT)
     for words, better in (it[1:].strip().split(": ", 1) for it in lines if it.startswith("~")):
-        # A word with a capital letter is one that begins a sentence.
-        pattern = "|".join(map(re.escape, words.split(", ")))
-        found = [(page, sentence) for page, text in texts.items() for sentence in sentences(text)
-                 for _ in (re.findall(rf"\b(?:{pattern})\b", sentence, re.I) if words.islower() else re.findall(rf"^\W*(?:{pattern})\b", sentence))]
-        check(len(found) <= MOST_DIALECT, "the pages", f"`{words}` {len(found)} times, better `{better}`: " + "; ".join(f"{page}: {it[:60]}" for page, it in found))
+        check_dialect("the pages", texts, words, better)
+        check_dialect("the comments", said, words, better)
     for page, text in texts.items():
         for word, better in listed:
             for found in re.finditer(rf"\b{re.escape(word)}\b", text, re.I):

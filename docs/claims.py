@@ -2,11 +2,12 @@
 """Prints what the sources promise; docs/CLAIMS.md says how to read it.
 
     docs/claims.py [NAME..]    prints the claims of the crates of these names, or of all. `faults` are the codes of each fault,
-                               `memory` the calls that may take memory, `types` the public types of the crates below nms_tool
+                               `memory` the calls that may take memory, `types` the public types of the crates below nms_tool,
+                               `bodies` the wrong bodies that a test was seen to refuse, or a contract lets through (wrong_bodies.txt)
 
 The claims of a crate are its public functions: the first sentence of the comment without its CFR section (docs/RULES.md has
 those), the names of the clauses, and the fault. A type has its file and the first sentence of its comment, up to the colon of a
-long one.
+long one. Below a crate's tables is what they leave out, from claims_notes.txt.
 """
 import functools
 import os
@@ -78,7 +79,7 @@ class Item:
 
 
 def comment_over(lines, at):
-    """The comment over a line, whose attributes may stand between; a blank comment line ends a paragraph."""
+    """The comment over a line, with attributes between them or not; a blank comment line ends a paragraph."""
     found = []
     while at and re.match(r"\s*(///|#\[)", lines[at - 1]):
         at -= 1
@@ -138,7 +139,7 @@ def tree():
 
 def codes_of(kind, seen=(), within=None):
     """The codes that the comments of a fault's variants name, and those of the faults that the variants carry: of two faults of one
-    name, that of a crate on which the carrier stands."""
+    name, that of a crate below the carrier's."""
     found = set()
     for crate, text in ((it.name, it.enums[kind]) for it in tree().values() if kind in it.enums and it.name in (within or tree())):
         named = " ".join(re.findall(r"///.*|^[^/]*#\[error.*", text, re.M))
@@ -179,7 +180,7 @@ def faults():
 
 
 def is_out_of_memory(kind, seen=()):
-    """Whether a fault can be out of memory: by a variant of its own, or by a fault that it carries."""
+    """Whether a fault can be out of memory: by one of its variants, or by a fault that it carries."""
     text = "\n".join(it.enums[kind] for it in tree().values() if kind in it.enums)
     carried = set(re.findall(r"\b(\w+Fault)\b", text)) - {kind, *seen}
     return "NoMemory" in text or any(is_out_of_memory(it, (*seen, kind)) for it in carried)
@@ -213,7 +214,7 @@ def listed(head, names):
     return [f"{head}: {', '.join(f'`{it}`' for it in names)}."] if names else []
 
 
-# A clause that stands alone, and what it says.
+# A clause that may be the only one, and what it says.
 ALONE = {"safe": "What is written is safe for a terminal (`safe`)", "kind": "Which faults can come (`kind`)"}
 
 
@@ -243,7 +244,23 @@ def claims_of(crate):
     for head, names in (("A number and its bounds", numbers), ("One clause each", plain), *alone.items(), ("No clause", bare),
                         ("Edits", edits_of(crate.name, "must-fail")), ("Wrong bodies", edits_of(crate.name, "wrong"))):
         pieces += listed(head, names)
+    pieces += [f"Beyond the tables: {notes()[crate.name]}"] if crate.name in notes() else []
     return "\n\n".join(pieces) + "\n"
+
+
+@functools.cache
+def notes():
+    """What the tables of each crate leave out."""
+    return dict(re.findall(r"^## (\w+)\n\n(.*?)\n(?=\n## |\Z)", read("docs/claims_notes.txt"), re.M | re.S))
+
+
+def bodies():
+    """The wrong bodies that a case or a test refuses, and the edits that make them: those that a clause refuses too, and the others."""
+    _, *groups, bodies_that_prove = read("docs/wrong_bodies.txt").strip().split("\n\n")
+    heads = ("A clause refuses these too:", "Only the case or the test refuses these:")
+    made = (table("|Wrong body|Case or test that fails|Edit|", [f"|{it}|" for it in group.split("\n")])[0] for group in groups)
+    parts = [*zip(heads, made, strict=True), ("No clause refuses these:", bodies_that_prove)]
+    return "\n".join(f"{head}\n\n{rows}\n" for head, rows in parts)
 
 
 def in_short(sentence):
@@ -252,7 +269,7 @@ def in_short(sentence):
 
 
 def below(crate):
-    """The crates of this repository that a crate stands on."""
+    """The crates of this repository below a crate."""
     return set(crates.below(crates.listed(), crate))
 
 
@@ -268,12 +285,12 @@ def types():
 
 def known():
     """The names by which claims are printed."""
-    return [*tree(), "faults", "memory", "types"]
+    return [*tree(), "faults", "memory", "types", "bodies"]
 
 
 def printed(name):
     """The claims of a crate, or what else has that name."""
-    text = {"faults": faults, "memory": memory, "types": types}.get(name, lambda: claims_of(tree()[name]))()
+    text = {"faults": faults, "memory": memory, "types": types, "bodies": bodies}.get(name, lambda: claims_of(tree()[name]))()
     return f"## {name}\n\n{text}"
 
 

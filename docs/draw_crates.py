@@ -4,7 +4,7 @@
     docs/draw_crates.py            writes the picture anew
     docs/draw_crates.py --check    status 1 if it differs
 
-A line goes down from a crate to each crate that it stands on. A line is left out if a longer way shows it already. A crate
+A line goes down from a crate to each crate that it uses. A line is left out if a longer way shows it already. A crate
 stands above all that it stands on.
 """
 import os
@@ -15,7 +15,7 @@ sys.path.insert(0, f"{TOP}/build")
 from crates import below, listed
 
 FILE = os.path.join(TOP, "docs", "crates.svg")
-# The groups: the programs that each stands below, its colour and its name. The product stands under the others, which use it.
+# The groups: the programs that each is below, its colour and its name. The product is under the others, which use it.
 GROUPS = ((("nms_tool", "nms_serve", "nms_c", "nms_engine"), "#dbe9f6", "the product: nms_tool, nms_serve, and nms_c for other languages"),
           (("nms_review",), "#e3f1dc", "the reviewer's program"),
           (("nms_examples", "nms_tests"), "#f3e6d8", "the gate"))
@@ -23,12 +23,12 @@ WIDE, HIGH, GAP, RISE, EDGE = 134, 24, 8, 76, 20
 
 
 def reduced(on):
-    """What each crate stands on, but what it stands on by another of these."""
+    """The crates that each crate uses, without those that another of these uses."""
     return {name: [it for it in its if not any(it in below(on, other) for other in its)] for name, its in on.items()}
 
 
 def levels(on):
-    """How high each crate stands: one below the lowest that stands on it, so that lines are short."""
+    """How high each crate is: one below the lowest that uses it, so that lines are short."""
     found = {}
     for name in on:
         found[name] = 1 + max((found[it] for it in on[name]), default=-1)
@@ -64,7 +64,7 @@ def placed(on):
             row.sort(key=lambda it: (middle(it), it))
             start = left + (width - len(row) * (WIDE + GAP) + GAP) / 2 + WIDE / 2
             for place, name in enumerate(row):
-                # Every second box stands a little lower, so that lines pass between.
+                # Every second box is a little lower, so that lines pass between.
                 where[name] = (start + place * (WIDE + GAP), top + 48 + depth * RISE + 26 * (place % 2))
         left += width + 2 * EDGE
     return where, frames

@@ -1,9 +1,9 @@
 #!/usr/bin/env python3
-"""Prints the keys of a mapping as the tables of docs/IMPORT.md, from the one table in crates/nms_import/src/keys.rt.
+"""Prints the keys of a mapping as the lists of docs/IMPORT.md, from the one table in crates/nms_import/src/keys.rt.
 
     docs/keys.py --write    writes them into the page again, between two of its lines; docs/check.py compares
 
-Keys of one table that stand side by side and have the same rule are one row.
+Neighbouring keys of one table that have the same rule are one item.
 """
 import itertools
 import os
@@ -28,7 +28,7 @@ def told(text):
 
 
 def rules(source):
-    """Each rule: whether it is needed, its words, and what is expected."""
+    """Each rule: what is expected, and what the key is if it is absent."""
     texts = {name: told(text) for name, text in re.findall(rf"const (\w+): &str =\s*{TEXT};", source)}
     lists = dict(re.findall(r"const (\w+): &\[&'static str\] = &\[(.*?)\];", source))
     found = {}
@@ -38,7 +38,12 @@ def rules(source):
         said = told(expected[1:-1]) if expected.startswith('"') else texts[expected]
         if not said:
             said = texts["ONE_OR_TWO"] if form == "Columns" else "a column"
-        found[name] = (needed == "true", [told(it) for it in re.findall(TEXT, lists.get(words, words))], said)
+        said_words = [told(it) for it in re.findall(TEXT, lists.get(words, words))]
+        other = said_words and form == "Column"
+        absent = f"refused, unless `{said_words[0]}` is there" if other else "refused" if needed == "true" else ""
+        if not absent and said_words and form not in ("Instead", "ZoneName"):
+            absent = f"`{said_words[0]}`"
+        found[name] = (said, absent)
     return found
 
 
@@ -51,17 +56,21 @@ def rows(source):
 
 
 def made():
-    """The lines of the table."""
-    source = read(SOURCE)
+    """The lines of the list: a table's name, then its keys."""
+    source, before = read(SOURCE), None
     known = rules(source)
-    lines = ["| Table | Keys | In mappings of | What stands there | If absent |", "|---|---|---|---|---|"]
+    lines = []
     for (table, kinds, rule), keys in itertools.groupby(rows(source), lambda row: (row[0], row[2], row[3])):
         if not table:
             continue
-        needed, words, expected = known[rule]
+        if table != before:
+            lines += [f"**`{table}`**", ""] if before is None else ["", f"**`{table}`**", ""]
+        before = table
+        expected, absent = known[rule]
         names = ", ".join("any word" if key == "*" else f"`{key}`" for _, key, _, _ in keys)
-        absent = "refused" if needed else f"`{words[0]}`" if words else ""
-        lines.append(f"| `{table}` | {names} | {kinds} | {expected} | {absent} |".replace('"|"', '"\\|"'))
+        whose = "" if kinds == "all" else f" ({kinds})"
+        said = f"; {absent} if absent" if absent else ""
+        lines.append(f"- {names}{whose}: {expected}{said}")
     return "\n".join(lines) + "\n"
 
 

@@ -24,9 +24,9 @@
  *   in an array, in shared memory.
  *   Stack that a call needs, in KiB; a thread or a fiber with less room dies in the call:
  *     nms_open 2048, nms_terms_open 2048, nms_setup_place 2048, nms_read_plan 96, nms_plan_view 32, nms_confirm_view 32,
- *     nms_plan_order 24, nms_through_view 24, nms_plan_all 24, nms_apply 20, nms_apply_all 20, nms_apply_best 20,
- *     nms_apply_text 20, nms_apply_lines 20, nms_confirm 20, nms_opening_of 16, nms_reduce_view 16, nms_plan_text 12,
- *     nms_traded_through 12, any other call 4
+ *     nms_through_view 24, nms_apply 20, nms_apply_all 20, nms_apply_best 20, nms_apply_text 20, nms_apply_lines 20,
+ *     nms_confirm 20, nms_opening_of 16, nms_reduce_view 16, nms_plan_text 12, nms_plan_order 8, nms_plan_all 8,
+ *     any other call 4
  *   nms_open, nms_terms_open and nms_setup_place take 48 for a text that is a setup. They take more for one that nests, up to
  *   80 tables with keys of 80 parts each, which are the most that TOML text may have here.
  *

@@ -9,7 +9,7 @@ import sys
 
 TOP = os.path.dirname(os.path.dirname(os.path.realpath(__file__)))
 # The pages for users. The others are for those who change the code.
-NAMES = ("CALLING", "CERTIFICATE", "ERRORS", "FORMATS", "HEADLINE", "IMPORT", "INSTALL", "JSON", "REAL_DAY", "REVIEW", "RULES", "SERVING", "TRADES")
+NAMES = ("CALLING", "CERTIFICATE", "ERRORS", "FORMATS", "HEADLINE", "IMPORT", "INSTALL", "JSON", "MINUTES", "REAL_DAY", "REVIEW", "RULES", "SERVING", "TRADES")
 PAGES = ("README.md", "CHANGELOG.md", "examples/README.md", *(f"docs/{it}.md" for it in NAMES))
 PICTURES = ("docs/page.svg",)
 # A page, what is there, and what an installed page has in its place. What is not there is not replaced: LEFT is the test.
@@ -33,7 +33,7 @@ EDITS = (
     ("docs/CALLING.md", r"PYTHONPATH=python python3", "python3"),
     ("docs/CALLING.md", r"^\| \[Rattle\].*\n", ""),
     ("docs/CALLING.md", r"^## From Rattle\n(?s:.*)", ""),
-    ("docs/(IMPORT|REVIEW|SERVING).md", r"^The released program .*\n\n", ""),
+    ("docs/(IMPORT|MINUTES|REVIEW|SERVING).md", r"^The released program .*\n\n", ""),
     ("docs/SERVING.md", r"^The run once more, (.*):\n\n    tests/replay\.py .*\n\n`day\.asks`.*\n",
      r"`tests/replay.py` of the sources makes the run once more, \1.\n"),
     ("docs/INSTALL.md", r"^## To make the packages\n(?s:.*?)(?=^## |\Z)", ""),

@@ -25,7 +25,7 @@ STORED, RECORDS = "nms_tool/stdin", set("QSXRTFPLNEO")
 NEVER = {"L9", "E8", "E9"}
 
 
-# The examples that have files of their own.
+# The examples that have their own files.
 
 
 def example_file(name):
@@ -90,7 +90,7 @@ def exits():
 
 
 def each_exit(statuses, calls):
-    """Raises if a call has to end with a code and another status than the table says. Of a code that no call ends with, memory
+    """Raises if a call has to end with a code and another status than the table says. If no call ends with a code, memory
     was refused: refuse.py and hostile.py look at those runs."""
     unseen = dict(statuses)
     for status, _, errors in (it.wanted for it in calls):

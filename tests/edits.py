@@ -10,7 +10,7 @@ Only the functions that the edits name are checked, over the libraries that `rt 
 missing are proved first. A first check has to prove the functions as they are, and the others begin with its work. Edits of
 different functions of a crate are made at once; one that changes a definition is made by itself.
 
-An edit passes if its function has a goal that is open, and the goal is named. Of a changed definition the lemmas are named
+An edit passes if its function has a goal that is open, and the goal is named. For a changed definition the lemmas are named
 whose proofs fail: the prover then does not say whether the lemma is false. An edit fails if the function is proved, if it is
 refused only since a proof names what the edit took away, and if the edit does not fit its source or does not compile. The last
 line is `N passed, M failed`.
@@ -46,7 +46,7 @@ class Edit:
     name: str
     says: str = ""
     function: str = ""
-    # Of each pair the file, the old text and the new one.
+    # For each pair the file, the old text and the new one.
     changes: list = dataclasses.field(default_factory=list)
 
     def is_of_code(self):

@@ -25,7 +25,7 @@ KINDS = "TOOMUCH", "TOOLITTLE", "MARGINAL"
 
 
 class Forged:
-    """A plan as its text says it, beside the present quotations, one change for each."""
+    """A plan as its text says it, with the present quotations, one change for each."""
 
     def __init__(self, rows, side, order, plan, cuts):
         self.rows, self.side = rows, side

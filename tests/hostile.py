@@ -72,7 +72,7 @@ class Call:
             return found + [f"no refusal gave {it}" for it in sorted(self.must - seen)]
 
     def plans(self, ample, single):
-        """What fails: each request for memory, each read and each write. Of a script each byte is a read."""
+        """What fails: each request for memory, each read and each write. Each byte of a script is a read."""
         reads = single.reads if self.given else ample.reads
         yield from (traced.Plan(memory=it + 1) for it in range(ample.memory))
         yield from (traced.Plan(read=it + 1, single=bool(self.given)) for it in range(reads))
@@ -90,7 +90,7 @@ class Call:
             return ran[:3] == ample[:3] or ran.status == STATUS.get(code, 5) and code in self.may and is_part
         if plan.write:
             return (ran.status, code) == (1, self.unwritten) and is_part
-        # The answers to the whole records before the byte that could not be read; for files, nothing.
+        # The answers to the complete records before the byte that could not be read; for files, nothing.
         whole = answers[self.given[:plan.read - 1].count("\n")] if self.given else b""
         return (ran.status, code, ran.out) == (1, "E1", whole)
 

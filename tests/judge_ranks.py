@@ -113,7 +113,7 @@ class Opened:
 
 
 class Plain:
-    """What the changes say: each side with the number of the change since which it stands, each state, each round lot."""
+    """What the changes say: each side with the number of the change since which it is quoted, each state, each round lot."""
 
     def __init__(self):
         self.sides, self.states, self.lots, self.version = {}, {}, dict(enumerate(LOTS)), 0
@@ -212,7 +212,7 @@ def ranks(path):
 
 
 def shown(view):
-    """What a view shows but for its version and its receipts."""
+    """What a view shows except its version and its receipts."""
     return [(bytes(it.price), bytes(it.size), bytes(it.part), bytes(it.is_protected), it.count, it.total) for it in (view.bid, view.offer)]
 
 
@@ -237,7 +237,7 @@ def opens(library, seed, count):
 
 
 def opening(path, seed):
-    """Raises a board that is shown otherwise once it is opened anew."""
+    """Raises a board that is shown otherwise once it is opened again."""
     library = loaded(path)
     if not opens(library, seed, seed % 240):
         least = next(count for count in range(241) if not opens(library, seed, count))

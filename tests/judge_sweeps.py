@@ -3,7 +3,7 @@
 
     tests/judge_sweeps.py [PROGRAM [BOARDS [SEED]]]      PROGRAM is nms_tool; 6,000 boards if no number is given
 
-On each board one order names nobody, one declares self-help against one participant, one against two, and one against
+On each board one order names no participant, one declares self-help against one participant, one against two, and one against
 all: the quotations of a named participant are neither usable nor binding for it (17 CFR 242.611(b)(1)). Half of the
 boards have the built-in setup, half have one whose fees lie whole steps of price apart, so that unit costs tie
 across prices, with round lots of 100 and of 1. What is judged of a plan: its record says the order, with the names by
@@ -15,7 +15,7 @@ The best of every lawful way is found here once more: it gives shares to all quo
 them, while `best_way` of rules.py tries only the usable ones. The trials `both judges, seed N` compare the two. A script
 that differs is made as short as it can be. The trials are `seed N`, 25 boards each; odd seeds have the second setup.
 
-Two kinds of trial ask for the plan of the fixed choice and its cuts alone, since every way would take too long. Those of
+Two kinds of trial ask for the plan of the fixed choice and its cuts only, because every way would take too long. Those of
 `small boards, N` are together the 1,728 boards on which N, P and Y each show one of twelve quotations, with 24 orders on
 each. Those of `eight participants, seed N` are 100 random boards each, with an order on each. Their unit costs tie within a
 price and across prices, and each cut has to say what it must.
@@ -141,7 +141,7 @@ def nanodollars(text):
 
 
 def drawn_orders(chance, kind, base):
-    """Four orders: one names nobody, one names one participant, one two, one all."""
+    """Four orders: one names no participant, one names one participant, one two, one all."""
     side = chance.choice("BS")
     for count in (0, 1, 2, 4):
         yield {
@@ -198,7 +198,7 @@ def drawn_steps(seed):
 
 def small_steps(number):
     """The same of the small boards on which Y shows the quotation of that number, on both sides: orders of each side and of
-    three sizes, for manual quotations or not, that name nobody or P."""
+    three sizes, for manual quotations or not, that name no participant or P."""
     kind = {"sym": "ABC", "lot": 100, "fees": FEES, "setup": ""}
     steps = []
     for shown_by_others in itertools.product(SMALL, SMALL):
@@ -212,7 +212,7 @@ def small_steps(number):
 
 
 def eight_steps(seed):
-    """The same of random boards of eight participants, which all quote anew: at most three lots at one of five prices, and an
+    """The same of random boards of eight participants, which all quote again: at most three lots at one of five prices, and an
     order of at most 24 lots, one half for manual quotations, one half with names."""
     chance = random.Random(seed)
     sym, lot = [("ABC", 100), ("PNY", 1)][seed % 2]

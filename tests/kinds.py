@@ -1,4 +1,4 @@
-"""The kinds of cases, and the runs of the programs that show one. What `nms_tool` does not print whole is shown by a second run: of
+"""The kinds of cases, and the runs of the programs that show one. What `nms_tool` does not print completely is shown by a second run: of
 a script its counts, by three records more; of a doubt its cut, of a file every refused record, of a plan's text what was read,
 by the JSON of `nms_review`; of a setup its numbers, by what fits into them."""
 import json
@@ -39,7 +39,7 @@ def objects(answers):
 
 
 def script(case, statuses):
-    """A script, and the same with its counts. These stand in the last line of what it gives, if no fault ends it."""
+    """A script, and the same with its counts. These are in the last line of what it gives, if no fault ends it."""
     option, files = under(case)
     status, answers, errors = ends(case.gives, statuses)
     if status:
@@ -105,7 +105,7 @@ def verdict(said):
 
 
 def plan(case, _):
-    """A plan's text: it is refused, or what is read of it, after as many changes as it has to stand on."""
+    """A plan's text: it is refused, or what is read of it, after the changes that its version needs."""
     option, files = under(case)
     part = tomllib.loads(case.setup.decode())["participant"][0]["name"] if case.setup else "N"
     files.update({"given.changes": f"X,{part}\n".encode() * MOST_VERSION, "given.plan": bytes_of(case.body)})

@@ -80,7 +80,7 @@ def counted(what, words, **how):
 
 
 def prints(what, words, wanted, given=None, environment=None):
-    """Runs a caller, and compares what it prints with the file beside it."""
+    """Runs a caller, and compares what it prints with the file next to it."""
     with open(f"{TOP}/{given}" if given else os.devnull, "rb") as stdin:
         how = {"stdin": stdin, "stdout": subprocess.PIPE, "stderr": subprocess.PIPE, "timeout": MOST, "cwd": TOP}
         try:
@@ -162,7 +162,7 @@ class Library:
             built("the archive goes into a shared object", [*words, "-o", f"{self.room}/plugin.so"])
 
     def header(self):
-        """The header's own assertions in C and in C++, its structs beside what the library reads and writes, and the locks."""
+        """The header's own assertions in C and in C++, its structs compared with what the library reads and writes, and the locks."""
         with open(f"{TOP}/include/nms.h", encoding="utf-8") as file:
             calls = re.findall(r"/\*((?:(?!\*/).)*)\*/\nstatic inline uint32_t (nms_\w+)\(([^)]*)\)", file.read(), re.S)
         for comment, name, arguments in calls:
@@ -196,7 +196,7 @@ class Library:
                 check("a program of C++ is of the library's layout", run([f"{self.room}/header"])[0] == 0)
 
     def stacks(self):
-        """The stack of each call beside what the header says, in KiB."""
+        """The stack of each call compared with what the header says, in KiB."""
         if not self.cc:
             skip("the stack of each call", "C compiler")
             return
@@ -217,7 +217,7 @@ class Library:
             check(f"the stack of {name}", int(size) <= most, f"{size} bytes, and not {most} at most")
 
     def readers(self):
-        """Looks by four threads beside a writer."""
+        """Looks by four threads while another writes."""
         setup = f"{TOP}/examples/builtin.toml"
         if not self.cc:
             skip("looks that run together", "C compiler")
@@ -230,7 +230,7 @@ class Library:
                 skip("looks that run together, under helgrind", "valgrind")
 
     def views(self):
-        """Calls on views beside those on boards, views that no look shows, and eight threads."""
+        """Calls on views compared with those on boards, views that no look shows, and eight threads."""
         setup = self.long_setup()
         if not self.cc:
             skip("calls on views", "C compiler")
@@ -266,7 +266,7 @@ class Library:
             counted("views between threads, under the thread sanitizer", [f"{self.room}/shared-tsan", setup, "2000"], env=environment)
 
     def rolling(self):
-        """More changes than one board counts, beside a plain model: 30,000,000 in 300 symbols."""
+        """More changes than one board counts, compared with a plain model: 30,000,000 in 300 symbols."""
         if not self.cc:
             skip("changes without end", "C compiler")
             return

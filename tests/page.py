@@ -4,7 +4,7 @@
     tests/page.py PROGRAM       PROGRAM is nms_review; NMS_PAGE is a folder to take in place of page/
 
 Scales are read from the labels that a reader reads, and places by getBoundingClientRect, not by the page's own functions.
-Without a browser the trials are skipped, also with CI=true. Of each page that is opened, the console must have no error, and no request may
+Without a browser the trials are skipped, also with CI=true. For each page that is opened, the console must have no error, and no request may
 leave the file.
 """
 import base64
@@ -234,7 +234,7 @@ def own_text(_):
 
 
 def data(pages):
-    """The data, read by the form alone, is what the program prints."""
+    """The data, read only by its form, is what the program prints."""
     executions = f"{TRADES}/desk.timed"
     path = pages.make(DESK, "ABC", "--trades", executions, *TIMES, "--window", "1000000")
     with open(path, encoding="utf-8") as it:

@@ -1,4 +1,4 @@
-"""Reads the data of a page to plain values, by page/DATA.md alone: a place in a list of texts becomes the text.
+"""Reads the data of a page to plain values, only by page/DATA.md: a place in a list of texts becomes the text.
 
 Two data texts say the same if `tables` of both are equal, in whatever order their lists of texts are.
 """

@@ -142,7 +142,7 @@ def moved(row, version, time):
 
 
 def cut(whole, time, first, last, since=None, until=None):
-    """What a whole page of one symbol has in a range, whose first version has that time."""
+    """What a page of all of one symbol has in a range, whose first version has that time."""
     def in_force(rows, key):
         """The last row of each key up to the first version, if it shows something, and the rows after it."""
         before = {it.get(key): it for it in rows if it.get("version", 0) <= first}

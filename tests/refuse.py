@@ -43,7 +43,7 @@ PLAN = "PLAN,3,B,ABC,600,10.0100,,600,6000.300000000\nLEG,N,10.0000,100\nLEG,P,1
 
 
 def prices(count, participant):
-    """A number of offers of a participant, each at a price of its own."""
+    """A number of offers of a participant, each at its own price."""
     return [f"Q,{participant},ABC,A,,,{1 + it // 10000}.{it % 10000:04},100\n" for it in range(count)]
 
 
@@ -102,7 +102,7 @@ class Call:
 
     @staticmethod
     def between(rans):
-        """The limits halfway between neighbours that end otherwise: what is seen under a few limits alone stands there."""
+        """The limits halfway between neighbours that end otherwise: it shows what is seen only under a few limits."""
         limits = sorted(rans)
         pairs = [(low, high) for low, high in zip(limits, limits[1:]) if code_of(rans[low][2]) != code_of(rans[high][2])]
         return {(low + high) // 2 // PAGE * PAGE for low, high in pairs} - rans.keys()

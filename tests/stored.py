@@ -32,7 +32,7 @@ def bytes_of(text):
 
 
 class Call:
-    """A call of the program in a folder of its own, and what it must come to."""
+    """A call of the program in its own folder, and what it must come to."""
 
     def __init__(self, words, status, answers, errors, files=(), given=b"", answers_to=None, errors_to=None):
         self.words, self.wanted = words, (status, answers, errors)

@@ -19,7 +19,7 @@ MOST = 120
 
 
 def stored(name, file, otherwise=b""):
-    """The bytes of a file beside the sources of a crate."""
+    """The bytes of a file next to the sources of a crate."""
     try:
         with open(f"{TOP}/crates/{name}/{file}", "rb") as it:
             return it.read()

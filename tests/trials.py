@@ -21,7 +21,7 @@ MOST_TRIES = 400
 
 
 class Wrong(Exception):
-    """What a trial found otherwise than it must be, in a line; the whole difference; how many other points were right."""
+    """What a trial found otherwise than it must be, in a line; the complete difference; how many other points were right."""
 
     def __init__(self, line, whole="", passed=0):
         super().__init__(line)
@@ -111,7 +111,7 @@ def run(part, trials, processes=False, alone=False, may_lack=False):
 
 
 def show(part, trial, wrong, only):
-    """Prints what differs: a line of a whole part, all of it of a trial alone."""
+    """Prints what differs: a line if a part was run, all of it if one trial was."""
     if only:
         print("\n".join(filter(None, [f"DIFFERS: {trial.name}: {wrong.line}", wrong.whole])), flush=True)
     else:
@@ -136,7 +136,7 @@ def compare(what, came, wanted):
 
 def least(items, fails, tries=MOST_TRIES):
     """The items of a failing case without those that it fails without: first halves are left out, then smaller parts. Of a
-    trial that is not asked for alone it is all items, since many may fail at once."""
+    trial that is not the only one asked for it is all items, because many may fail at once."""
     items, size = list(items), max(1, len(items) // 2)
     if not os.environ.get("NMS_ONLY"):
         return items

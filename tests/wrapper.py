@@ -47,7 +47,7 @@ def refused(what, code, field, call):
 
 
 def order(**fields):
-    """An order that is right but for these fields."""
+    """An order that is right except for these fields."""
     return nms.Order(**{"side": BUY, "sym": "ABC", "shares": 100, "limit": 100_100, **fields})
 
 
@@ -254,7 +254,7 @@ def views(setup, board):
 
 
 def threads(board):
-    """Threads look at one board and plan on it, with no lock of their own: each has every answer of a single thread."""
+    """Threads look at one board and plan on it, without a lock: each has every answer of a single thread."""
     wanted, wrong = (board.best("ABC"), board.plan(order()).legs), []
 
     def look():
