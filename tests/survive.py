@@ -581,6 +581,9 @@ def dies(chance, it, paths, kind, way):
 def killed(chance, it, paths, sent):
     """As `dies`, of a process that is killed."""
     got = it.room.path("got")
+    # It may be killed before it has begun to write, and then an earlier one's answers are not its own.
+    with contextlib.suppress(FileNotFoundError):
+        os.remove(got)
     process = subprocess.Popen(["sh", "-c", chance.choice(OPENED) + READER, "sh", *paths, sent, got], stdout=subprocess.PIPE)
     check(f"{it.what}: a process sends its requests", bool(select.select([process.stdout], [], [], MOST_END)[0]))
     time.sleep(chance.choice([0, 0, 0.001, 0.005, 0.03]))
