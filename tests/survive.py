@@ -514,7 +514,7 @@ OPENED = ('exec 3>"$1" 4<"$2" && ', 'exec 4<"$2" 3>"$1" && ')
 
 
 def renew(paths):
-    """Makes a client's FIFOs anew, that of its requests first."""
+    """Makes a client's FIFOs again, that of its requests first."""
     for path in paths:
         os.mkfifo(f"{path}.new")
     for path in paths:
@@ -629,9 +629,9 @@ def many_deaths(program, tool, count):
 
 
 def routers_that_die(program, tool, is_anew, deaths):
-    """As `many_deaths`: with FIFOs that each router makes anew, and a record of all answers; or with the same FIFOs for all, where the
+    """As `many_deaths`: with FIFOs that each router makes again, and a record of all answers; or with the same FIFOs for all, where the
     next router comes once the end of the one before was found."""
-    with Failing(program, tool, f"routers that die, {'FIFOs made anew' if is_anew else 'FIFOs kept'}", MANY) as it:
+    with Failing(program, tool, f"routers that die, {'FIFOs made again' if is_anew else 'FIFOs kept'}", MANY) as it:
         chance, fifos = random.Random(4711 + is_anew), (it.room.fifo("a"), it.room.fifo("b"))
         paths = [(it.room.fifo(f"in{number}"), it.room.fifo(f"out{number}")) for number in range(16)]
         words = it.words(*fifos, "--keep", *(["--record", it.room.path("record")] if is_anew else []))
@@ -1010,7 +1010,7 @@ def none_left(program, tool):
         # A descriptor that was open for a moment as they were counted is enough for the tape.
         late = r"E1: the file of published lengths could not be opened: .*\.1\.published: Too many open files \(os error 24\)"
         run.ends(1, f"E1: the tape could not be opened: {it.tape}.1: Too many open files (os error 24)", (1, late))
-    with Failing(program, tool, "no descriptor for a feed that is made anew") as it:
+    with Failing(program, tool, "no descriptor for a feed that is made again") as it:
         run = Served(it).open("a", "b", "in", "out")
         run.send("a", GOOD)
         check(f"{it.what}: it serves", run.is_seen(1))
@@ -1019,7 +1019,7 @@ def none_left(program, tool):
         it.room.fifo("a")
         run.close("a")
         run.ends(1, f"E1: feed A could not be opened: {it.room.path('a')}: Too many open files (os error 24)")
-    with Failing(program, tool, "no descriptor for a router that makes its FIFOs anew") as it:
+    with Failing(program, tool, "no descriptor for a router that makes its FIFOs again") as it:
         run = Served(it).open("a", "b", "in", "out")
         run.send("a", GOOD)
         check(f"{it.what}: it serves", run.is_seen(1))
