@@ -11,6 +11,7 @@ use Rattle.nms_quote.specs.Roster.{Sizes}
 use Rattle.nms_quote.specs.Tape.{Tape}
 use Rattle.nms_quote.specs.declared.side_quote.Side.{Side}
 use Rattle.nms_quote.specs.declared.side_quote.QState.{QState}
+use Rattle.nms_board.specs.Holding.{price_of}
 use Rattle.nms_board.specs.History.{content_at, lot_at, receipt_of, state_at}
 use Rattle.nms_board.specs.Kept.{symbol_cells}
 use Rattle.nms_board.specs.Quotation.{is_halted, is_automated, quotation, quotation_of, quotations}
@@ -65,6 +66,25 @@ quotation_is_row lot part state receipt (Some content) = by_tests (is_halted sta
     by_tests true nothing e = tt
     by_tests false true e = tt
     by_tests false false e = (refl, omega (arith, eqb-false (displayed_size lot content.shares) 0 e))
+
+-- a quotation has the price of what is quoted
+pub quotation_price : (lot part : ℕ) (state : Option QState) (receipt : ℕ) (content : Option Content)
+    → IfSome (quotation lot part state receipt content) (λ row. row.price ≡ price_of content)
+quotation_price lot part state receipt None = tt
+quotation_price lot part state receipt (Some content) = by_tests (is_halted state) (displayed_size lot content.shares == 0)
+  where
+    by_tests : (halted nothing : Bool)
+        → IfSome (if halted then None else (if nothing then None else Some
+        (record {
+          part = part;
+          price = content.price;
+          size = displayed_size lot content.shares;
+          receipt = receipt;
+          protected = is_automated state;
+        }))) (λ (row : Row). row.price ≡ content.price)
+    by_tests true nothing = tt
+    by_tests false true = tt
+    by_tests false false = refl
 
 IsFrom-cons : (place : ℕ) (row : Option Row) (rows : List Row) → IfSome row (IsRowOf place) → IsFrom (place + 1) rows
     → IsFrom place (cons_option row rows)

@@ -22,7 +22,7 @@ use crate::symbol_ranks::{SymbolRanks, clear_ranks, empty_ranks};
 use crate::view::View;
 use arrayvec::ArrayVec;
 use nms_quote::{Change, MOST_CHANGES, MOST_SYMBOLS, Part, Roster, Side, Sym};
-use nms_units::Lot;
+use nms_units::{Lot, Price};
 use std::alloc::{AllocError, Global};
 use std::marker::Model;
 
@@ -180,6 +180,16 @@ impl Boards {
     {
         let lot = self.lots[usize::from(sym.get())];
         self.cells[place_of(part, sym)].row(side, part, lot)
+    }
+
+    /// The price of that quotation, if there is one. It takes less than the quotation, whose size is in round lots.
+    #[inline(always)]
+    pub fn price(&self, side: Side, part: Part, sym: Sym) -> Price
+        requires part { part < self.now.sizes.parts }
+        requires sym { sym < length self.now.sizes.lots }
+        ensures { IfSome (row_held self.now sym side part) (λ row. row.price ≡ result) }
+    {
+        self.cells[place_of(part, sym)].price(side)
     }
 
     /// The row at place `at` of a side's rank order in a symbol, counted from 0. Exactly `at` of the symbol's rows on the side

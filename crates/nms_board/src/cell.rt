@@ -1,5 +1,5 @@
 //! One participant in one symbol, which is a cell of `specs/Cells`.
-ghost use Rattle.std.specs.Prelude.{◌≡◌, ℕ, ◌*◌, ◌≤◌, IfOk, Some, false, length, true, replicate};
+ghost use Rattle.std.specs.Prelude.{◌≡◌, ℕ, ◌*◌, ◌≤◌, IfOk, IfSome, Some, false, length, true, replicate};
 ghost use Rattle.std.specs.Option.{is_some};
 ghost use Rattle.nms_board.specs.Cells.{empty_cell};
 ghost use Rattle.nms_board.specs.History.{on_side};
@@ -228,6 +228,15 @@ impl Cell {
             return 0;
         }
         lot.displayed(self.held(side).shares)
+    }
+
+    /// The price of a side's quotation, if there is one.
+    #[inline(always)]
+    #[tactic(auto, using(crate::proofs::RowLemmas::quotation_price))]
+    pub(crate) fn price(&self, side: Side) -> Price
+        ensures { (lot part : ℕ) → IfSome (row_of_cell lot part side self.now) (λ row. row.price ≡ result) }
+    {
+        self.held(side).price
     }
 
     /// The quotation of a side in lots of the given size, if there is one.

@@ -1,6 +1,6 @@
 -- The rows of a board's first participants that a price trades through; and that there are none if the best row is not.
-use Rattle.std.proofs.Common.{ℕ, suc, ◌≡◌, ◌+◌, ◌++◌, ◌&&◌, Bool, true, false, List, [], ◌∷◌, ap, get_or, refl, sym, ◌∙◌, arith}
-use Rattle.std.specs.Prelude.{All}
+use Rattle.std.proofs.Common.{ℕ, suc, ◌≡◌, ◌+◌, ◌<◌, ◌++◌, ◌&&◌, Bool, true, false, List, [], ◌∷◌, ap, get_or, refl, sym, ◌∙◌, arith}
+use Rattle.std.specs.Prelude.{All, IfSome, Option, None, Some, zero}
 use Rattle.std.specs.List.{cons_option, filter, filter_map, range_with_len}
 use Rattle.std.proofs.lemmas.Bool.Decides.{nat_tests}
 use Rattle.std.proofs.lemmas.List.Elements.{filter-append}
@@ -50,3 +50,14 @@ pub none_through : (side : Side) (millionths : ℕ) (rows : List Row) (best : Ro
     → is_beyond side millionths best.price ≡ false → through_at side millionths rows ≡ []
 none_through side millionths rows best is not_best =
     none_kept side millionths rows (λ k d below. not_beyond side millionths best (get_or rows k d) (is.highest k d below) not_best)
+
+-- a quotation whose price is not beyond another is not traded through
+pub not_beyond_is_none : (side : Side) (millionths price : ℕ) (row : Option Row) → IfSome row (λ row. row.price ≡ price)
+    → is_beyond side millionths price ≡ false → [] ≡ through_at side millionths (cons_option row [])
+not_beyond_is_none side millionths price None is not = refl
+not_beyond_is_none side millionths price (Some row) is not =
+    sym (none_kept side millionths (row ∷ []) (λ k d below. by k below d))
+  where
+    by : (k : ℕ) → k < 1 → (d : Row) → is_beyond side millionths (get_or (row ∷ []) k d).price ≡ false
+    by zero below d = rw is not
+    by (suc k) below d = absurd (omega arith)

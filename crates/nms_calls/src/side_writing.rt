@@ -1,7 +1,7 @@
 //! Writing the rows of a side as arrays: `specs/RowNumbers`.
 ghost use Rattle.std.specs.Prelude.{◌≡◌, ◌+◌, ◌++◌, ◌<◌, ◌≤◌, true, List, [], length, slice_get};
 ghost use Rattle.std.specs.List.{cons_option};
-ghost use Rattle.nms_board.specs.Shown.{rows_held};
+ghost use Rattle.nms_board.specs.Shown.{row_held, rows_held};
 ghost use Rattle.nms_board.specs.declared.row.Row.{Row};
 ghost use Rattle.nms_calls.specs.RowNumbers.{AreRanked, AreRowsAt, row_numbers, through_at, is_through_at, is_beyond, with_row};
 
@@ -80,6 +80,7 @@ pub(crate) fn through_at(side: Side, millionths: u64, rows: &[Row]) -> ArrayVec<
 /// Writes rows to the first places, and empty ones to the others. They are the rows of a look's side that `through_at` keeps.
 /// They are read from the board without making a view, and none is read if the best one is not beyond the price. Returns how
 /// many there are.
+#[inline(always)]
 pub(crate) fn put_through(
     board: &Boards,
     side: Side,
@@ -97,7 +98,7 @@ pub(crate) fn put_through(
     }
     let mut count = 0;
     for place in 0..board.parts() {
-        let row = board.row(side, Part::new(place).unwrap(), sym);
+        let row = row_beyond(board, side, Part::new(place).unwrap(), sym, millionths);
         count = put_next(side, millionths, row, count, places);
     }
     count as u32
@@ -112,6 +113,23 @@ fn has_none_beyond(board: &Boards, side: Side, sym: Sym, millionths: u64) -> boo
     match best_on(board, side, sym) {
         Some(best) => !is_beyond(side, millionths, best.price),
         None => true,
+    }
+}
+
+/// The quotation of a participant, unless its price is not beyond one in 1/1,000,000 dollar: most are not, and a price takes less
+/// than a quotation.
+#[inline(always)]
+#[tactic(auto, using(crate::proofs::ThroughLemmas::not_beyond_is_none))]
+fn row_beyond(board: &Boards, side: Side, part: Part, sym: Sym, millionths: u64) -> Option<Row>
+    requires part { part < board.now.sizes.parts }
+    requires sym { sym < length board.now.sizes.lots }
+    ensures { through_at side millionths (cons_option result [])
+        ≡ through_at side millionths (cons_option (row_held board.now sym side part) []) }
+{
+    if is_beyond(side, millionths, board.price(side, part, sym)) {
+        board.row(side, part, sym)
+    } else {
+        None
     }
 }
 
@@ -149,6 +167,7 @@ fn is_through(side: Side, millionths: u64, row: &Row) -> bool
 }
 
 /// Whether a price is above another in 1/1,000,000 dollar for a bid, below it for an offer.
+#[inline(always)]
 fn is_beyond(side: Side, millionths: u64, price: Price) -> bool
     ensures { result ≡ is_beyond side millionths price }
 {

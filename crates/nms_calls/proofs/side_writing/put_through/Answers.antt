@@ -16,7 +16,9 @@ loop-place-preserved c =
     let millionths = c.args.millionths in
     let place : ℕ = c.loop-place.place in
     let part : c.unwrap.result ≡ place = grind (arith, common_steps) in
-    let row : c.row-row.result ≡ row_held board c.args.sym side place = c.row-row.ensures ∙ ap (row_held board c.args.sym side) part in
+    let row : through_at side millionths (cons_option c.row_beyond-row.result [])
+    ≡ through_at side millionths (cons_option (row_held board c.args.sym side place) []) =
+    c.row_beyond-row.ensures ∙ ap (λ n. through_at side millionths (cons_option (row_held board c.args.sym side n) [])) part in
     let before : List Row = through_first board c.args.sym side millionths place in
     let one : List Row = through_at side millionths (cons_option (row_held board c.args.sym side place) []) in
     let more = through_more board c.args.sym side millionths place in
