@@ -21,6 +21,11 @@ pub record IsSoFar (settings : Settings) (orders : List (ℕ × DeskOrder)) (fir
   pub within : AllByRecursion (λ n. n ≤ longest_of known) (versions answers)
   pub later : AllByRecursion (λ n. longest_of first ≤ n) (versions answers)
 
+-- the answer is the best on a version that the desk saw now, which begins with all that it knew
+abbrev pub IsBestStep : Answer → List Tape → List Tape → Settings → Type 0
+IsBestStep answer known new settings =
+    (tape : Tape) × (new ≡ tape ∷ known) × AllBegin tape known × (answer.plan.version ≡ length tape) × IsBestOn settings tape answer
+
 pub so_far_start : (settings : Settings) (first : List Tape) → IsSoFar settings [] first first []
 so_far_start settings first = record { knows = ([], refl); matched = tt; best = tt; rising = tt; within = tt; later = tt }
 

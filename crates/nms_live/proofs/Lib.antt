@@ -5,11 +5,13 @@ pub mod DeskFacts
 pub mod FaultFacts
 pub mod FedFacts
 pub mod FeedFacts
+pub mod HeldFacts
 pub mod KeeperFacts
 pub mod LeftFacts
 pub mod NumberFacts
 pub mod OwnFacts
 pub mod PlaceFacts
+pub mod PlanFacts
 pub mod TapeFacts
 mod FeedLemmas
 mod HeadlineLemmas

@@ -8,12 +8,15 @@ pub use Rattle.nms_flow.specs.Laws as RunLaws
 pub use Rattle.nms_flow.specs.Run as Run
 pub use Rattle.nms_versions.specs.Taped as Taped
 pub mod Answering
+pub mod Closed
 pub mod Crew
 pub mod Faults
 pub mod Headline
+pub mod Held
 pub mod Keeping
 pub mod Lists
 pub mod Living
+pub mod Planning
 pub mod Reading
 pub mod Rows
 pub mod RunOf

@@ -8,22 +8,21 @@ ghost use Rattle.nms_live.specs.declared.desk_work.Desked.{Desked};
 ghost use Rattle.nms_live.specs.Faults.{IsNoLine};
 ghost use Rattle.nms_live.specs.Keeping.{IsWhole};
 
+use crate::answers::Answers;
 use crate::desk_work::{Desked, answer_orders};
 use crate::gate::OpenGate;
 use crate::given::{Given, Means};
 use crate::keeper::Keeper;
 use crate::live_fault::LiveFault;
-use nms_quote::Answer;
-use std::collections::VecDeque;
 use std::sync::Wait;
 
 /// A desk's answers.
 #[derive(Drop)]
 pub struct DeskRow {
     /// The answers that it made while the feeds were running.
-    pub(crate) answers: VecDeque<Answer>,
+    pub(crate) answers: Answers,
     /// The answers that it made on the complete tape.
-    pub(crate) closing: VecDeque<Answer>,
+    pub(crate) closing: Answers,
 }
 
 /// Lets each desk answer its orders again on the complete tape, and settles it.

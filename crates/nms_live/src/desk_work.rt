@@ -6,16 +6,17 @@ ghost use Rattle.nms_quote.specs.Tape.{Tape};
 ghost use Rattle.nms_versions.specs.Taped.{AllBegin, longest_of};
 ghost use Rattle.nms_live.specs.Answering.{IsBestOn, IsDesked, IsFor, IsWorked, versions};
 ghost use Rattle.nms_live.specs.Faults.{IsNoLine};
+ghost use Rattle.nms_live.specs.Planning.{answer_to};
 
+use crate::answers::Answers;
 use crate::gate::{Gate, GatePoint, passes};
 use crate::given::Means;
 use crate::live_fault::LiveFault;
 use crate::own_orders::OwnOrders;
+use crate::planning::Planning;
 use nms_fees::Setup;
-use nms_quote::{Answer, DeskOrder};
-use nms_sweep::plan;
+use nms_quote::DeskOrder;
 use nms_versions::Desk;
-use std::collections::VecDeque;
 use std::snapshot::Snapshot;
 use std::sync::Wait;
 use std::thread::Promise;
@@ -24,7 +25,7 @@ use std::thread::Promise;
 #[derive(Drop)]
 pub struct Desked {
     pub(crate) desk: Desk,
-    pub(crate) answers: VecDeque<Answer>,
+    pub(crate) answers: Answers,
     pub(crate) stop: Option<LiveFault>,
 }
 
@@ -61,7 +62,7 @@ pub(crate) fn work<R: Wait, G: Gate>(
         },
         Err(fault) => Desked {
             desk,
-            answers: VecDeque::new(means.alloc),
+            answers: Answers::none(means.alloc),
             stop: Some(fault),
         },
     }
@@ -74,7 +75,7 @@ pub(crate) fn answer_orders<R: Wait, G: Gate>(
     orders: &[(usize, DeskOrder)],
     number: u8,
     desk: &mut Desk,
-) -> Result<VecDeque<Answer>, LiveFault>
+) -> Result<Answers, LiveFault>
     requires sizes { desk.old.sizes ≡ sizes_of setup.now.roster }
     ensures same { (desk.new.opening ≡ desk.old.opening) × (desk.new.sizes ≡ desk.old.sizes) }
     ensures worked { IfOk result (λ answers. IsWorked setup.now orders.now desk.new.known answers.items) }
@@ -82,17 +83,18 @@ pub(crate) fn answer_orders<R: Wait, G: Gate>(
     ensures later { IfOk result (λ answers. AllByRecursion (λ version. longest_of desk.old.known ≤ version) (versions answers.items)) }
     ensures fault { IfErr result IsNoLine }
 {
-    let mut answers = VecDeque::new(means.alloc);
+    let mut answers = Answers::none(means.alloc);
+    let mut planning = Planning::new(setup);
     for (place, wanted) in orders.iter().enumerate() {
         let at = GatePoint::Look {
             desk: number,
             k: place as u64,
         };
-        let answer = match answer_one(means, at, setup, desk, wanted) {
-            Ok(answer) => answer,
+        match plan_one(means, at, desk, wanted, &mut planning) {
+            Ok(()) => {}
             Err(fault) => return Err(fault),
-        };
-        match answers.push_back(answer) {
+        }
+        match answers.push(wanted, &planning.planner) {
             Ok(()) => {}
             Err(_) => return Err(LiveFault::NoMemory),
         }
@@ -100,35 +102,31 @@ pub(crate) fn answer_orders<R: Wait, G: Gate>(
     Ok(answers)
 }
 
-/// Looks, and plans the order on the view.
-fn answer_one<R: Wait, G: Gate>(
+/// Looks, and plans the order on what is shown.
+fn plan_one<R: Wait, G: Gate>(
     means: &Means<'_, R, G>,
     at: GatePoint,
-    setup: &Setup,
     desk: &mut Desk,
     wanted: &(usize, DeskOrder),
-) -> Result<Answer, LiveFault>
-    requires sizes { desk.old.sizes ≡ sizes_of setup.now.roster }
+    planning: &mut Planning<'_>,
+) -> Result<(), LiveFault>
+    requires sizes { desk.old.sizes ≡ sizes_of planning.old.setup.now.roster }
     ensures same { (desk.new.opening ≡ desk.old.opening) × (desk.new.sizes ≡ desk.old.sizes) }
-    ensures order { IfOk result (IsFor wanted.now) }
-    ensures best { IfOk result (λ answer. (tape : Tape) × (desk.new.known ≡ tape ∷ desk.old.known) × AllBegin tape desk.old.known
-        × (answer.plan.version ≡ length tape) × IsBestOn setup.now tape answer) }
+    ensures setup { planning.new.setup.now ≡ planning.old.setup.now }
+    ensures order { IfOk result (λ _. IsFor wanted.now (answer_to wanted.now planning.new.planner)) }
+    ensures best { IfOk result (λ _. (tape : Tape) × (desk.new.known ≡ tape ∷ desk.old.known) × AllBegin tape desk.old.known
+        × (planning.new.planner.plan.version ≡ length tape) × IsBestOn planning.old.setup.now tape (answer_to wanted.now planning.new.planner)) }
     ensures unchanged { OnErr result (desk.new ≡ desk.old) }
     ensures fault { IfErr result IsNoLine }
 {
     if !passes(means.rt, means.gate, at) {
         return Err(LiveFault::GateLimit);
     }
-    let (number, wanted) = wanted;
-    let Ok(view) = desk.look(wanted.order.sym) else {
-        return Err(LiveFault::Desk);
-    };
-    let (plan, certificate) = plan(&view, &wanted.order, setup.fees());
+    planning.order = wanted.1.order;
+    match desk.look_with(planning) {
+        Ok(()) => {}
+        Err(_) => return Err(LiveFault::Desk),
+    }
     means.gate.done(at);
-    Ok(Answer {
-        desk: wanted.desk,
-        number: *number,
-        plan,
-        certificate,
-    })
+    Ok(())
 }

@@ -33,18 +33,17 @@ pub(crate) fn gather(
     ensures answered { IfOk result (λ all. IsAnswered setup.now orders.now tape.now published.now all.answers.items all.closing.items) }
     ensures fault { IfErr result IsNoLine }
 {
-    let mut answers = Vec::new(alloc);
-    let mut closing = Vec::new(alloc);
+    // There is room first, because growth, and a push that can fail, would copy each answer again.
+    let Ok(mut answers) = Vec::with_capacity(alloc, orders.len()) else {
+        return Err(LiveFault::NoMemory);
+    };
+    let Ok(mut closing) = Vec::with_capacity(alloc, orders.len()) else {
+        return Err(LiveFault::NoMemory);
+    };
     for wanted in orders {
         let (answer, close) = next_of(&mut rows, wanted);
-        match answers.push(answer) {
-            Ok(()) => {}
-            Err(_) => return Err(LiveFault::NoMemory),
-        }
-        match closing.push(close) {
-            Ok(()) => {}
-            Err(_) => return Err(LiveFault::NoMemory),
-        }
+        answers.push_reserved(answer);
+        closing.push_reserved(close);
     }
     Ok(Gathered { answers, closing })
 }
@@ -70,11 +69,7 @@ fn take_next(row: &mut DeskRow) -> (Answer, Answer)
     ensures answer { row.old.answers.items ≡ result.0 ∷ row.new.answers.items }
     ensures closing { row.old.closing.items ≡ result.1 ∷ row.new.closing.items }
 {
-    let Some(answer) = row.answers.pop_front() else {
-        unreachable!()
-    };
-    let Some(close) = row.closing.pop_front() else {
-        unreachable!()
-    };
+    let answer = row.answers.take_first();
+    let close = row.closing.take_first();
     (answer, close)
 }

@@ -33,6 +33,8 @@ pub struct Means<'m, R, G> {
 }
 
 impl<'g> Given<'g> {
+    ghost use Rattle.std.specs.Prelude.{◌≡◌};
+
     /// The most changes that the tape can have, if each record of the feeds ends with a line feed.
     pub(crate) fn most_changes(&self) -> usize {
         let most = self.setup.tape_limit() as usize;
@@ -41,6 +43,20 @@ impl<'g> Given<'g> {
             records += line_feeds(text).min(most - records);
         }
         records
+    }
+
+    /// Only the orders. The texts and all else are freed.
+    pub(crate) fn into_orders(self) -> Vec<DeskOrder>
+        ensures { result ≡ self.entry.orders }
+    {
+        let Given {
+            setup: _,
+            feeds: _,
+            ended: _,
+            orders,
+            by_desk: _,
+        } = self;
+        orders
     }
 
     /// Whether the workers of all feeds have ended.

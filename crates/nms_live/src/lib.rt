@@ -2,6 +2,7 @@
 //! proved what they all did together.
 #![tactic(auto)]
 
+mod answers;
 mod closing;
 mod desk_work;
 mod desk_workers;
@@ -18,6 +19,7 @@ mod live;
 mod live_fault;
 mod living;
 mod own_orders;
+mod planning;
 mod taking;
 mod workers;
 

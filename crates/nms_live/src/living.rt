@@ -2,10 +2,11 @@
 ghost use Rattle.std.specs.Prelude.{◌≡◌, ◌<◌, All, length, map, IfErr, IfOk};
 ghost use Rattle.nms_live.specs.Crew.{IsDone, texts_of};
 ghost use Rattle.nms_live.specs.Faults.{IsNoLine};
+ghost use Rattle.nms_live.specs.Closed.{IsClosedRun};
 ghost use Rattle.nms_live.specs.Living.{IsLive};
 ghost use Rattle.nms_live.specs.Reading.{IsLiveFault};
 
-use crate::closing::close_desks;
+use crate::closing::{DeskRow, close_desks};
 use crate::desk_work::Desked;
 use crate::ended::Ended;
 use crate::gate::Gate;
@@ -18,7 +19,7 @@ use crate::own_orders::part_by_desk;
 use crate::workers::run_in_threads;
 use nms_feed::open_lane;
 use nms_fees::Setup;
-use nms_quote::DeskOrder;
+use nms_quote::{Change, DeskOrder};
 use nms_versions::open_tape;
 use std::alloc::Global;
 use std::sync::Wait;
@@ -53,17 +54,44 @@ pub fn run_live<R: Threads + Wait + Sync, G: Gate>(
         orders,
         by_desk,
     };
-    run_over(&Means { rt, alloc, gate }, &given)
+    let closed = match run_over(&Means { rt, alloc, gate }, &given) {
+        Ok(closed) => closed,
+        Err(fault) => return Err(fault),
+    };
+    // The texts go first, because all answers in the order of the orders take more memory than anything before.
+    let orders = given.into_orders();
+    let Closed {
+        tape,
+        published,
+        rows,
+    } = closed;
+    let Gathered { answers, closing } = gather(alloc, setup, &orders, &tape, &published, rows)?;
+    Ok(Live {
+        tape,
+        published,
+        answers,
+        closing,
+    })
+}
+
+/// A run whose threads have ended.
+#[derive(Drop)]
+pub struct Closed {
+    /// All changes of all feeds, in the order in which they were taken.
+    pub(crate) tape: Vec<Change>,
+    /// The length of the tape at each publishing, in order.
+    pub(crate) published: Vec<u64>,
+    /// The answers of each desk, in order of its number.
+    pub(crate) rows: Vec<DeskRow>,
 }
 
 /// The live run over the texts and orders that it is given.
 fn run_over<R: Threads + Wait + Sync, G: Gate>(
     means: &Means<'_, R, G>,
     given: &Given<'_>,
-) -> Result<Live, LiveFault>
+) -> Result<Closed, LiveFault>
     requires feeds { length given.now.feeds.items ≡ given.now.setup.now.feeds }
-    requires desks { All (λ order. order.desk < given.now.setup.now.desks) given.now.orders.items }
-    ensures live { IfOk result (IsLive given.now.setup.now (texts_of given.now) given.now.orders.items) }
+    ensures closed { IfOk result (IsClosedRun given.now.setup.now (texts_of given.now) given.now.orders.items) }
     ensures refused { IfErr result (IsLiveFault given.now.setup.now.roster (texts_of given.now)) }
 {
     let Ok(ends) = open_lane(means.alloc, given.setup.queue(), given.setup.feeds()) else {
@@ -82,35 +110,25 @@ fn run_over<R: Threads + Wait + Sync, G: Gate>(
     }
 }
 
-/// The closing answers, and the result of the run.
+/// The closing answers, the tape, and what was published.
 fn close_all<R: Wait, G>(
     means: &Means<'_, R, G>,
     given: &Given<'_>,
     mut keeper: Keeper,
     desks: Vec<Desked>,
-) -> Result<Live, LiveFault>
+) -> Result<Closed, LiveFault>
     requires limit { keeper.taped.limit ≡ given.now.setup.now.tape_limit }
-    requires desks { All (λ order. order.desk < given.now.setup.now.desks) given.now.orders.items }
     requires done { IsDone given.now keeper desks.items }
-    ensures live { IfOk result (IsLive given.now.setup.now (texts_of given.now) given.now.orders.items) }
+    ensures closed { IfOk result (IsClosedRun given.now.setup.now (texts_of given.now) given.now.orders.items) }
     ensures fault { IfErr result IsNoLine }
 {
     match close_desks(means, given, &mut keeper, desks) {
         Ok(rows) => {
             let (tape, published) = keeper.end(means.rt);
-            let Gathered { answers, closing } = gather(
-                means.alloc,
-                given.setup,
-                &given.orders,
-                &tape,
-                &published,
-                rows,
-            )?;
-            Ok(Live {
+            Ok(Closed {
                 tape,
                 published,
-                answers,
-                closing,
+                rows,
             })
         }
         Err(fault) => {

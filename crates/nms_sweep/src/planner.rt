@@ -8,10 +8,11 @@ ghost use Rattle.nms_rules.specs.Faultless.{given_by};
 ghost use Rattle.nms_rules.specs.Usable.{usable};
 ghost use Rattle.nms_sweep.specs.Filling.{AreExact, FillsInOrder};
 ghost use Rattle.nms_sweep.specs.Order.{AreInOrder};
+ghost use Rattle.nms_sweep.specs.Planned.{IsPlanned};
 
 use crate::cutoffs::Cutoffs;
 use crate::made::Made;
-use nms_board::Boards;
+use nms_board::{Boards, View};
 use nms_fee_book::FeeBook;
 use nms_quote::{Certificate, Order, OrderSide, PartSet, Plan, Sym};
 use nms_units::{Price, Shares};
@@ -78,6 +79,16 @@ impl Planner {
         board.shows_rows(order.sym);
         self.cutoffs.set_on(board, order, fees);
         self.made.set(version, order, &self.cutoffs);
+    }
+
+    /// As `plan_on`, but on a view.
+    pub fn plan_view(&mut self, view: &View, order: &Order, fees: &FeeBook)
+        requires { order.now.sym ≡ view.now.sym }
+        ensures planned { IsPlanned view.now order.now fees.now self.new.plan self.new.cuts }
+    {
+        let version = view.version();
+        let cutoffs = Cutoffs::new(view, order, fees);
+        self.made.set(version, order, &cutoffs);
     }
 
     /// The plan of the last order.

@@ -1,11 +1,12 @@
 -- What a publisher, a receipt and a desk say of themselves. This product's own rule.
-use Rattle.std.specs.Prelude.{ℕ, List, [], ◌∷◌, ◌++◌, length, max}
+use Rattle.std.specs.Prelude.{ℕ, ◌≡◌, List, [], ◌∷◌, ◌++◌, length, max}
 use Rattle.std.specs.List.{AllByRecursion}
 use mathlib.Core.List.{IsPrefix}
 use Rattle.logbook.specs.Pages.{Book}
 use Rattle.nms_quote.specs.Roster.{Sizes, sizes_of}
 use Rattle.nms_quote.specs.Tape.{Tape}
 use Rattle.nms_quote.specs.declared.change.Change.{Change}
+use Rattle.nms_board.specs.Cells.{Board, StandsFor}
 use Rattle.nms_fees.specs.Settings.{Settings}
 use Rattle.nms_versions.specs.Published.{Batches, changes}
 
@@ -49,3 +50,11 @@ longest_of (version ∷ versions) = max (length version) (longest_of versions)
 -- the version begins with each of these
 abbrev pub AllBegin : Tape → List Tape → Type 0
 AllBegin version known = AllByRecursion (λ earlier. IsPrefix earlier version) known
+
+-- a desk was shown a board: it is what a version makes of its roster, which begins with all that the desk knew. From now on
+-- the desk knows that version
+pub record IsShown (before after : Knowing) (board : Board) (version : Tape) : Type 0 where
+  pub stands : StandsFor board version
+  pub sizes : board.sizes ≡ before.sizes
+  pub begins : AllBegin version before.known
+  pub knows : after ≡ record before { known = version ∷ before.known }

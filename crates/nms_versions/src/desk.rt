@@ -2,14 +2,16 @@
 ghost use Rattle.std.specs.Prelude.{◌≡◌, ◌<◌, ◌∷◌, ◌↔◌, length, IfErr, IfOk, IsErr, OnErr, OnOk};
 ghost use Rattle.std.specs.List.{AllByRecursion, Contains};
 ghost use Rattle.nms_quote.specs.Tape.{Tape};
+ghost use Rattle.nms_board.specs.Cells.{Board};
 ghost use Rattle.nms_board.specs.View.{view_of};
 ghost use Rattle.nms_versions.specs.Published.{changes, publications};
-ghost use Rattle.nms_versions.specs.Taped.{AllBegin, longest_of};
+ghost use Rattle.nms_versions.specs.Taped.{AllBegin, IsShown, longest_of};
 ghost use Rattle.nms_versions.specs.declared.settled.Unsettled.TheVariants as unsettled;
 
 use crate::history::Token;
 use crate::memory::Memory;
 use crate::no_reading::NoReading;
+use crate::onlooker::{Onlooker, Viewer};
 use crate::receipt::Receipt;
 use crate::rule::{PairReader, Reading};
 use crate::settled::{Settled, Unsettled};
@@ -78,6 +80,17 @@ impl Desk {
             × AllBegin version self.old.known × (self.new ≡ record self.old { known = version ∷ self.old.known })) }
         ensures unchanged { OnErr result (self.new ≡ self.old) }
     {
+        self.look_with(&mut Viewer { sym })
+    }
+
+    /// Shows the published board to an onlooker. It waits for no thread and takes no memory, unless the onlooker does.
+    /// `NoReading` leaves both as they were.
+    pub fn look_with<O: Onlooker>(&mut self, onlooker: &mut O) -> Result<O::Sight, NoReading>
+        ensures shown { IfOk result (λ sight. (board : Board) × (version : Tape) × IsShown self.old self.new board version
+            × O.Sees onlooker.old board onlooker.new sight) }
+        ensures unchanged { OnErr result (self.new ≡ self.old) }
+        ensures unshown { OnErr result (onlooker.new ≡ onlooker.old) }
+    {
         let reader = self.reader.take().unwrap();
         let reading = match reader.enter_as::<Reading>() {
             Ok(reading) => reading,
@@ -98,9 +111,9 @@ impl Desk {
         self.memory = self.memory.with(seen.again());
         self.longest = version;
         self.newest = seen;
-        let view = sealed.boards.view(sym);
+        let sight = onlooker.see(&sealed.boards);
         self.reader = Some(reading.leave());
-        Ok(view)
+        Ok(sight)
     }
 
     /// Ends the desk on a receipt of its own opening: each version that it knew is a beginning of the receipt's, and was

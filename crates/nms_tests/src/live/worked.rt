@@ -137,6 +137,17 @@ fn the_worked_run_answers_on_the_whole_tape(rt: HostRuntime) {
     compare_worked(&rt, rt.alloc(), &live);
 }
 
+#[test]
+fn an_order_for_a_symbol_off_the_roster_is_answered_with_no_leg(rt: HostRuntime) {
+    let feeds = [feed_a(), feed_b()];
+    let stranger = Wanted { sym: 9, ..order() };
+    let orders = [stranger, order()];
+    let came_to = run(&rt, rt.alloc(), SETUP_K, &feeds, &orders, &OpenGate);
+    let live = came_to.expect(&rt, "a run");
+    same(&rt, first_told(&live.closing), Some((0, 0, 4, 0)));
+    same(&rt, live.closing.last().map(told), Some((0, 1, 4, 600)));
+}
+
 /// The fault that ends a run over a setup of these limits, with the worked order.
 fn fault<R: Threads + Wait + Abort + Sync, G: Gate>(
     rt: &R,

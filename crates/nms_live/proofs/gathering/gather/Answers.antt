@@ -1,6 +1,6 @@
 -- `gather`: clause `answered` and the turns of its loop, by `numbered_more`, `zip_push`, `Turn`, `all_put`,
 -- `left_step`, `numbered_rest`, `rising_all`, `some_of` and others.
-use Rattle.std.proofs.Common.{ℕ, ◌≡◌, ◌<◌, ◌+◌, ◌++◌, ◌∷◌, [], List, length, take, drop, refl, ap, sym, subst, ◌∙◌, arith, rules}
+use Rattle.std.proofs.Common.{ℕ, ◌≡◌, ◌<◌, ◌+◌, ◌++◌, ◌∷◌, [], List, length, take, drop, refl, ap, sym, subst, ◌∙◌, arith}
 use Rattle.std.specs.List.{AllZip, enumerate_from}
 use Rattle.std.specs.Prelude.{slice_index_or}
 use Rattle.std.proofs.Math.Seq.{drop-length, take-length}
@@ -50,11 +50,16 @@ loop-wanted-preserved c =
     c.next_of-answer.ensures.len here c.next_of-answer.ensures.others c.next_of-answer.ensures.answer left in
     let last = left_step own (IsLast settings tape published) turn_closing first old new
     c.next_of-answer.ensures.len here c.next_of-answer.ensures.others c.next_of-answer.ensures.closing closing_left in
-    let pushed : c.push.new.self.items ≡ at.answers.items ++ answer ∷ [] = search rules in
-    let pushed_closing : c.push-in-loop-wanted.new.self.items ≡ at.closing.items ++ close ∷ [] = search rules in
+    let pushed : c.push_reserved.new.self.items ≡ at.answers.items ++ answer ∷ [] = c.push_reserved.ensures.items in
+    let pushed_closing : c.push_reserved-in-loop-wanted.new.self.items ≡ at.closing.items ++ close ∷ [] =
+    c.push_reserved-in-loop-wanted.ensures.items in
     let more = numbered_more orders place order c.loop-wanted-test.true (sym c.wanted-item.is) in
     record {
       count = c.next_of-answer.ensures.len ∙ inv.count;
+      put = omega (arith, c.push_reserved.ensures.len, inv.put);
+      room = omega (arith, c.push_reserved.ensures.capacity, inv.room);
+      closing_put = omega (arith, c.push_reserved-in-loop-wanted.ensures.len, inv.closing_put);
+      closing_room = omega (arith, c.push_reserved-in-loop-wanted.ensures.capacity, inv.closing_room);
       left = rw pushed next.2;
       closing_left = rw pushed_closing last.2;
       matched = rw (more, pushed) (zip_push IsFor (numbered (take place orders)) at.answers.items (place, order) answer inv.matched next.0);
@@ -110,8 +115,12 @@ returns-clause-answered c =
     }
 
 pub loop-wanted-init : goal.loop-wanted-init
-loop-wanted-init c = rw (c.new-answers.ensures.items, c.new-closing.ensures.items) record {
+loop-wanted-init c = rw (c.in-Ok.ensures.items, c.in-Ok-with_capacity.ensures.items) record {
   count = refl;
+  put = c.in-Ok.ensures.len;
+  room = omega (arith, c.in-Ok.ensures.capacity);
+  closing_put = c.in-Ok-with_capacity.ensures.len;
+  closing_room = omega (arith, c.in-Ok-with_capacity.ensures.capacity);
   left = λ k d below.
       let row = c.requires.rows k d below in
       record { parted = refl; matched = row.matched; wanted = row.sound };
@@ -144,3 +153,10 @@ next_of-answer-requires c =
       closing = some_left (λ row. row.closing.items) _ c.args.orders.now at.wanted-index order at.closing.items c.args.rows.items
           at.rows.items c.loop-wanted-test.true (sym c.wanted-item.is) here at.invariant.closing_left;
     }
+
+pub push_reserved-requires : goal.push_reserved-requires
+push_reserved-requires c = omega (arith, c.loop-wanted-test.true, c.loop-wanted.invariant.put, c.loop-wanted.invariant.room)
+
+pub push_reserved-requires-in-loop-wanted : goal.push_reserved-requires-in-loop-wanted
+push_reserved-requires-in-loop-wanted c =
+    omega (arith, c.loop-wanted-test.true, c.loop-wanted.invariant.closing_put, c.loop-wanted.invariant.closing_room)

@@ -33,14 +33,8 @@ pub close_all-requires : goal.close_all-requires
 close_all-requires g c = record {
   limit = c.in-Ok-run_in_threads.ensures.same.limit ∙ ap (λ (k : Keeping). k.taped.limit) c.new-keeper.ensures
       ∙ ap (λ (t : Taped). t.limit) c.in-Ok-open_tape.ensures.opened;
-  desks = c.requires.desks;
   done = c.in-Ok-run_in_threads.ensures.done;
 }
 
 pub returns-in-Err : goal.returns-in-Err
-returns-in-Err g c = record { live = tt; refused = c.in-Err.ensures.fault }
-
--- ---- goals that `grind` closes; the search that is tried before it takes longer
-
-pub returns-in-Ok-run_in_threads-clause-live : goal.returns-in-Ok-run_in_threads-clause-live
-returns-in-Ok-run_in_threads-clause-live g c = grind (arith, common_steps)
+returns-in-Err g c = record { closed = tt; refused = c.in-Err.ensures.fault }

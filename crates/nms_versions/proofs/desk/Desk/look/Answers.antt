@@ -1,120 +1,23 @@
--- `Desk::look`: clause `shown`, the call of `enter_as` and the invariant of what it leaves, by `all_begin`,
--- `prefix_shorter`, `remembers_longer` and `reads`.
-use Rattle.std.proofs.Common.{◌≡◌, ◌∷◌, length, map, ap, sym, subst, ◌∙◌, refl, arith, Option, Some, IfSome, option_and_then}
-use Rattle.std.proofs.lemmas.Grind.{common_steps}
-use mathlib.Core.List.{IsPrefix}
-use Rattle.logbook.specs.Pages.{Book}
-use Rattle.nms_quote.specs.Tape.{Tape}
-use Rattle.nms_board.specs.Cells.{StandsFor}
+-- `Desk::look`: clause `shown`, since what the shown board shows is the view of its version.
+use Rattle.std.proofs.Common.{ap, ◌∙◌, Result, Ok, Err, IfOk}
 use Rattle.nms_board.specs.View.{view_of}
-use Rattle.nms_versions.specs.Published.{Batches, changes}
-use Rattle.nms_versions.specs.Rule.{IsNamed, IsOf, sizes_shown}
-use Rattle.nms_versions.specs.Taped.{AllBegin, Knowing}
-use Rattle.nms_versions.specs.declared.known.Known.{Known}
-use Rattle.nms_versions.proofs.BatchLemmas.{all_begin, prefix_shorter, remembers_longer}
-use Rattle.nms_versions.proofs.RuleLemmas.{reads}
+use Rattle.nms_board.proofs.Offered.{seen_stands}
 use Rattle.nms_versions.proofs.desk.Desk.look.Goals as goal
 
-at_some : {A : Type 0} (P : A → Type 0) (o : Option A) (x : A) → o ≡ Some x → IfSome o P → P x
-at_some P o x is h = subst (λ z. IfSome z P) is h
-
-then_some : {A B : Type 0} (f : A → Option B) (o : Option A) (x : A) → o ≡ Some x → option_and_then f o ≡ f x
-then_some f o x is = ap (option_and_then f) is
-
-pub enter_as-requires : goal.enter_as-requires
-enter_as-requires c = reads _ _
-
--- what the reader knows of the opening
-named : (c : goal.After-drop-both-2) → IsNamed c.unwrap-reader.result.place.me.0.client c.self.inside.newest.book
-named c = at_some _ c.self.inside.reader c.unwrap-reader.result (sym c.take.ensures.value ∙ c.unwrap-reader.ensures) c.self.invariant.1
-
--- the board that is shown is of that opening
-of_opening : (c : goal.After-drop-both-2) → IsOf c.get-sealed.result.now c.unwrap-reader.result.place.me.0.client
-of_opening c = rw c.get-sealed.ensures c.in-Ok.ensures.1.2
-
--- and is the board of the history that came with it
-stands : (c : goal.After-drop-both-2) → StandsFor c.get-sealed.result.now.boards (changes c.again-seen.result.log)
-stands c = rw (c.again-seen.ensures, c.get-sealed.ensures) c.in-Ok.ensures.1.1
-
-counted : (c : goal.After-drop-both-2) → c.applied-version.result ≡ length (changes c.again-seen.result.log)
-counted c = c.applied-version.ensures.count ∙ (stands c).applied
-
--- what the desk knew begins it
-begins : (c : goal.After-drop-both-2) → IsPrefix c.self.inside.newest.log c.again-seen.result.log
-begins c =
-    let knew : IsPrefix c.self.inside.newest.log c.learn.new.self.log =
-    subst (λ (l : Batches). IsPrefix l c.learn.new.self.log) (ap (λ s. s.log) c.again-both.ensures) c.learn.ensures.2 in
-    prefix_shorter c.self.inside.newest.log c.again-seen.result.log c.learn.new.self.log knew c.learn.ensures.3
-    c.learn.ensures.4.1.none_empty
-    (omega (arith, counted c, c.self.invariant.2.counted, c.if-version-self.false))
-
-same_book : (c : goal.After-drop-both-2) → c.again-seen.result.book ≡ c.self.inside.newest.book
-same_book c = ap (λ s. s.book) c.again-seen.ensures ∙ sym ((of_opening c).book (named c).named (named c).is_named) ∙ (named c).book_is
-
--- the reader that came back knows what it knew
-knows : (c : goal.After-drop-both-2) → c.leave-2.result.place.me.0.client ≡ c.unwrap-reader.result.place.me.0.client
-knows c = c.leave-2.ensures.1 ∙ c.in-Ok.ensures.1.0
-
-pub invariant_of-self-2 : goal.invariant_of-self-2
-invariant_of-self-2 c = (
-  refl,
-  subst (λ (k : Known). IsNamed k c.again-seen.result.book) (sym (knows c))
-      (subst (λ (b : Book). IsNamed c.unwrap-reader.result.place.me.0.client b) (sym (same_book c)) (named c)),
-  rw (c.with.ensures, c.again.ensures) (remembers_longer _ _ _ _ _ c.self.invariant.2 (begins c) (counted c)
-      (omega (arith, c.if-version-self.false))),
-)
-
--- the view is of that history
-of_history : (c : goal.After-drop-both-2) → c.view-view.result
-    ≡ view_of (sizes_shown c.unwrap-reader.result.place.me.0.client.opening) (changes c.again-seen.result.log) c.args.sym
-of_history c =
-    let sizes : c.get-sealed.result.now.boards.sizes ≡ sizes_shown c.unwrap-reader.result.place.me.0.client.opening =
-    sym ((of_opening c).sizes (named c).named (named c).is_named) ∙ sym (ap sizes_shown (named c).is_named) in
-    c.view-view.ensures.shows _ (stands c) ∙ ap (λ sizes. view_of sizes (changes c.again-seen.result.log) c.args.sym) sizes
+if_ok : {A B : Type 0} (P Q : A → Type 0) (r : Result A B) → ((a : A) → P a → Q a) → IfOk r P → IfOk r Q
+if_ok P Q (Ok a) more is = more a is
+if_ok P Q (Err b) more is = tt
 
 pub returns-clause-shown : goal.returns-clause-shown
 returns-clause-shown c =
-    let version : Tape = changes c.again-seen.result.log in
-    let before : record {
-      opening = c.self.inside.newest.book;
-      sizes = sizes_shown c.unwrap-reader.result.place.me.0.client.opening;
-      known = map changes c.self.inside.memory;
-    } ≡ c.args.self.now =
-    ap (λ o. record { opening = c.self.inside.newest.book; sizes = sizes_shown o; known = map changes c.self.inside.memory })
-    (sym (then_some _ c.self.inside.reader c.unwrap-reader.result (sym c.take.ensures.value ∙ c.unwrap-reader.ensures)))
-    ∙ c.self.view_is in
-    let known : map changes c.with.result ≡ version ∷ map changes c.self.inside.memory = ap (map changes) c.with.ensures
-    ∙ ap (λ s. changes s.log ∷ map changes c.self.inside.memory) c.again.ensures in
-    let after : Knowing = record {
-      opening = c.again-seen.result.book;
-      sizes = sizes_shown c.leave-2.result.place.me.0.client.opening;
-      known = map changes c.with.result;
-    } in
-    let now : after ≡ record {
-      opening = c.self.inside.newest.book;
-      sizes = sizes_shown c.unwrap-reader.result.place.me.0.client.opening;
-      known = version ∷ map changes c.self.inside.memory;
-    } =
-    λ i. record { opening = same_book c i; sizes = sizes_shown (knows c i).opening; known = known i } in (
+    if_ok _ _ c.look_with.result
+    (λ view is.
+    let board = is.0 in
+    let version = is.1 in
+    let shown = is.2 in (
       version,
-      of_history c ∙ ap (λ (k : Knowing). view_of k.sizes version c.args.sym) before,
-      subst (λ (k : Knowing). AllBegin version k.known) before (all_begin _ _ _ c.self.invariant.2.begin (begins c)),
-      now ∙ ap (λ (k : Knowing). record { opening = k.opening; sizes = k.sizes; known = version ∷ k.known }) before,
-    )
-
--- ---- goals that `grind` closes; the search that is tried before it takes longer
-
-pub learn-requires : goal.learn-requires
-learn-requires c = grind (arith, common_steps)
-
-pub returns-in-Err-clause-unchanged : goal.returns-in-Err-clause-unchanged
-returns-in-Err-clause-unchanged c = grind (arith, common_steps)
-
-pub returns-then-version-self-clause-unchanged : goal.returns-then-version-self-clause-unchanged
-returns-then-version-self-clause-unchanged c = grind (arith, common_steps)
-
-pub invariant_of-self : goal.invariant_of-self
-invariant_of-self c = grind (arith, common_steps)
-
-pub invariant_of-self-then-version-self : goal.invariant_of-self-then-version-self
-invariant_of-self-then-version-self c = grind (arith, common_steps)
+      is.3 ∙ seen_stands board version c.args.sym shown.stands ∙ ap (λ sizes. view_of sizes version c.args.sym) shown.sizes,
+      shown.begins,
+      shown.knows,
+    ))
+    c.look_with.ensures.shown
