@@ -2,3 +2,4 @@ mod CountFacts
 mod StandingFacts
 mod QuotedFacts
 mod TextFacts
+mod SumFacts

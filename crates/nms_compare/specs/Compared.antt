@@ -21,11 +21,16 @@ use Rattle.nms_compare.specs.declared.national.National.{National}
 abbrev pub version_at : Order → List ℕ → National → ℕ
 version_at order keys theirs = version_by keys (key_in order theirs.sym theirs.time)
 
--- a row: the finding on the version at its time, or why it has no national best
+-- the finding on a national best, on the version at its time
+abbrev pub finding_at : Vendor → Listing → Tape → List ℕ → National → Finding
+finding_at vendor roster tape keys theirs =
+    finding_of (quoted_at (sizes_of roster) (version (version_at vendor.order keys theirs) tape) theirs.sym) theirs
+
+-- a row: the finding on its national best, or why it has none
 abbrev pub found_of : Vendor → Listing → Tape → List ℕ → Record → Result Finding Cause
 found_of vendor roster tape keys row = do
   theirs ← national_of vendor.bids vendor.offers vendor.meanings.now roster row
-  Ok (finding_of (quoted_at (sizes_of roster) (version (version_at vendor.order keys theirs) tape) theirs.sym) theirs)
+  Ok (finding_at vendor roster tape keys theirs)
 
 -- the causes that skip a row; the others refuse it
 abbrev pub skips : Cause → Bool

@@ -5,6 +5,7 @@ ghost use Rattle.csv.specs.declared.parser.Config.{Config};
 ghost use Rattle.nms_lines.specs.Layout.{Record};
 ghost use Rattle.nms_import.specs.Rows.{AreAllRows, RowsFrom, unread};
 ghost use Rattle.nms_compare.specs.Compared.{counts_of, found_of, rows_in};
+ghost use Rattle.nms_compare.specs.Summed.{AreCounted, judged_in, judged_of, summed};
 
 use crate::compare_fault::CompareFault;
 use crate::counts::Counts;
@@ -36,7 +37,7 @@ pub struct Vendor<'a> {
 }
 
 /// Compares the rows that a reader still has with the best bids and offers of a tape. Each is compared on the version at its
-/// time, and counted by its finding. The first 100 that are not equal are shown.
+/// time, and counted by its finding; also by its symbol and its hour, in the sums. The first 100 that are not equal are shown.
 ///
 /// `RowsFall` comes if a row is before an earlier one, in the vendor's order. After an error only the rows before it were
 /// shown. The writer is not flushed.
@@ -49,7 +50,9 @@ pub fn compare_rows<R: Read, W: Write>(
 ) -> Result<Counts, CompareFault>
     ensures counted { (config : Config) (bytes : Option (List ℕ)) (seen : List Record) → RowsFrom config (unread R.remaining) reader.old bytes seen
         → IfOk result (λ counts. (rows : List Record) × AreAllRows config bytes (seen ++ rows)
-        × (counts ≡ counts_of vendor.now keyed.now.tape.now.roster.now keyed.now.tape.now.changes.items keyed.now.keys.items rows) × (rows_in counts ≡ length rows)) }
+        × (counts ≡ counts_of vendor.now keyed.now.tape.now.roster.now keyed.now.tape.now.changes.items keyed.now.keys.items rows) × (rows_in counts ≡ length rows)
+        × AreCounted shown.old.sums shown.new.sums
+        (judged_in vendor.now keyed.now.tape.now.roster.now keyed.now.tape.now.changes.items keyed.now.keys.items rows)) }
 {
     let mut walk = open_walk(alloc, keyed)?;
     let mut row = ByteRecord::new(alloc);
@@ -87,6 +90,8 @@ fn find_row<W: Write>(
     ensures keys { OnOk result (walk.new.keys ≡ walk.old.keys) }
     ensures found { IfOk result (λ found. found ≡ found_of vendor.now walk.old.replay.tape.now.roster.now
         walk.old.replay.tape.now.changes.items walk.old.keys.now (fields_of row.now)) }
+    ensures sums { OnOk result (shown.new.sums ≡ summed shown.old.sums (judged_of vendor.now walk.old.replay.tape.now.roster.now
+        walk.old.replay.tape.now.changes.items walk.old.keys.now (fields_of row.now))) }
 {
     let roster = walk.replay.tape.roster;
     let theirs = match read_national(

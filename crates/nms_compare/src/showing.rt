@@ -46,12 +46,13 @@ impl<'a, W> Model for Shown<'a, W> {
 
     ghost Value = { Shown W };
 
-    ghost view = { λ s. record { out = s.out.now; file = s.file.now; left = s.left } };
+    ghost view = { λ s. record { out = s.out.now; file = s.file.now; left = s.left; sums = s.sums } };
 }
 
 impl<'a, W: Write> Shown<'a, W> {
     ghost use Rattle.nms_compare.specs.Showing.{most_of};
-    ghost use Rattle.std.specs.Prelude.{IfOk};
+    ghost use Rattle.nms_compare.specs.Summed.{no_sums, with_judged};
+    ghost use Rattle.std.specs.Prelude.{IfOk, OnOk};
 
     /// What shows the rows of a file of this name, of this number of symbols, on a writer. Nothing is written yet.
     pub fn new(
@@ -60,7 +61,7 @@ impl<'a, W: Write> Shown<'a, W> {
         file: &'a str,
         symbols: usize,
     ) -> Result<Shown<'a, W>, CompareFault>
-        ensures { IfOk result (λ shown. shown ≡ record { out = out.old; file = file.now; left = most_of showing }) }
+        ensures { IfOk result (λ shown. shown ≡ record { out = out.old; file = file.now; left = most_of showing; sums = no_sums symbols }) }
     {
         let sums = Sums::new(showing.alloc, symbols)?;
         Ok(Shown {
@@ -81,7 +82,9 @@ impl<'a, W: Write> Shown<'a, W> {
     }
 
     /// How many rows had each finding, by symbol and by hour.
-    pub fn into_sums(self) -> Sums {
+    pub fn into_sums(self) -> Sums
+        ensures { result ≡ self.entry.sums }
+    {
         self.sums
     }
 
@@ -92,7 +95,9 @@ impl<'a, W: Write> Shown<'a, W> {
         meanings: &Meanings,
         row: &ByteRecord,
         cause: Cause,
-    ) -> Result<(), CompareFault> {
+    ) -> Result<(), CompareFault>
+        ensures { self.new.sums ≡ self.old.sums }
+    {
         if self.left == 0 || cause.skips() {
             return Ok(());
         }
@@ -124,7 +129,9 @@ impl<'a, W: Write> Shown<'a, W> {
         board: &Boards,
         theirs: &National,
         finding: Finding,
-    ) -> Result<(), CompareFault> {
+    ) -> Result<(), CompareFault>
+        ensures { OnOk result (self.new.sums ≡ with_judged self.old.sums (record { sym = theirs.now.sym; time = theirs.now.time; finding = finding })) }
+    {
         self.sums.count(theirs.sym, theirs.time, finding)?;
         let what = word_of(finding);
         if self.left == 0 || what.is_empty() || !board.has_sym(theirs.sym) {

@@ -1,19 +1,23 @@
-//! How many rows had each finding, by symbol and by hour.
+//! How many rows had each finding, by symbol and by hour: `specs/Summed`.
+ghost use Rattle.std.specs.Prelude.{◌≡◌, IfSome, OnOk};
+ghost use Rattle.nms_compare.specs.Summed.{with_one, with_row};
+
 use crate::compare_fault::CompareFault;
 use crate::finding::Finding;
 use nms_quote::{Roster, Sym};
 use nms_show::{Form, Item, write_line, write_object};
 use std::alloc::{AllocError, Global};
 use std::io::Write;
+use std::marker::Model;
 
 /// The hours of a day.
-const HOURS: usize = 24;
+pub(crate) const HOURS: usize = 24;
 /// How many values the minutes, seconds and nanoseconds of a time `HHMMSSnnnnnnnnn` have.
-const HOUR: u64 = 10_000_000_000_000;
+pub(crate) const HOUR: u64 = 10_000_000_000_000;
 
 /// How many rows had each finding.
 #[derive(Clone, Copy)]
-struct Found {
+pub(crate) struct Found {
     equal: u64,
     other_price: u64,
     other_size: u64,
@@ -30,9 +34,19 @@ pub struct Sums {
     hours: Vec<Found>,
 }
 
+impl Model for Sums {
+    ghost use Rattle.nms_compare.specs.Summed.{Summed};
+
+    ghost Value = { Summed };
+
+    ghost view = { λ s. record { symbols = s.symbols.items; hours = s.hours.items } };
+}
+
 impl Found {
     /// With one row more. `None`: there are too many.
-    fn with(mut self, finding: Finding) -> Option<Found> {
+    fn with(mut self, finding: Finding) -> Option<Found>
+        ensures { IfSome result (λ found. found ≡ with_one self finding) }
+    {
         match finding {
             Finding::Equal => self.equal = self.equal.checked_add(1)?,
             Finding::OtherPrice => self.other_price = self.other_price.checked_add(1)?,
@@ -53,8 +67,13 @@ impl Found {
 }
 
 impl Sums {
+    ghost use Rattle.std.specs.Prelude.{◌≡◌, IfOk, OnOk};
+    ghost use Rattle.nms_compare.specs.Summed.{no_sums, with_judged};
+
     /// Of no rows, with room for n symbols.
-    pub(crate) fn new(alloc: Global, symbols: usize) -> Result<Sums, AllocError> {
+    pub(crate) fn new(alloc: Global, symbols: usize) -> Result<Sums, AllocError>
+        ensures { IfOk result (λ sums. sums ≡ no_sums symbols) }
+    {
         let none = Found {
             equal: 0,
             other_price: 0,
@@ -78,7 +97,9 @@ impl Sums {
         sym: Sym,
         time: u64,
         finding: Finding,
-    ) -> Result<(), CompareFault> {
+    ) -> Result<(), CompareFault>
+        ensures { OnOk result (self.new ≡ with_judged self.old (record { sym = sym; time = time; finding = finding })) }
+    {
         count_at(&mut self.symbols, usize::from(sym.get()), finding)?;
         count_at(&mut self.hours, (time / HOUR) as usize, finding)
     }
@@ -116,7 +137,9 @@ impl Sums {
 }
 
 /// Counts a row at a place.
-fn count_at(all: &mut [Found], place: usize, finding: Finding) -> Result<(), CompareFault> {
+fn count_at(all: &mut [Found], place: usize, finding: Finding) -> Result<(), CompareFault>
+    ensures { OnOk result (all.new ≡ with_row all.old place finding) }
+{
     if place < all.len() {
         let Some(found) = all[place].with(finding) else {
             return Err(CompareFault::TooLong);
