@@ -3,4 +3,5 @@ mod RowFacts
 mod TextFacts
 mod TimeFacts
 mod ShowFacts
+mod SideFacts
 pub mod NameFacts

@@ -2,6 +2,8 @@ pub mod Times
 pub mod Mapping
 pub mod Rows
 pub mod Imported
+pub mod SideRows
+pub mod SideExamples
 pub mod Examples
 pub mod FaultExamples
 pub mod Causes
