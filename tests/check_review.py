@@ -11,7 +11,7 @@ after it is what it writes, with the words `status N` in the text between them i
 meets a closed output, one whose reader has gone, records of a million bytes, records whose fields and lists are longer than
 any that is right, byte order marks before quotes, each byte of a file once, a setup of many symbols, streams of several
 pieces, a symbol that is cut to four shards, what is written beside a shard, lines of all ends, a trade after a refused row, a
-terminal and users who want no colours, imports to one name that fail or have fewer shards, a script of one record too many,
+terminal and users who want no colours, imports to one name that fail or have fewer shards, an output that is standard output's own file, a script of one record too many,
 the imports of examples/import/, and the random files and pages that the judges JUDGES compare with a plain slow program.
 """
 import gzip
@@ -430,6 +430,38 @@ def out_of_one_import(program, path):
     must((ran.returncode, set(last)) == (0, names), f"{ran.returncode}, {ran.stderr!r}, {sorted(last)}")
 
 
+def rows_of_one_import(program, path):
+    """The file of refused rows gets its name with the other files of an import, and no temporary file is left. A pipe is written
+    itself. After a failure it is as it was."""
+    room = os.path.dirname(path)
+    rows = b"0930,N,ABC,9.90,300,10.00,200\n093001,N,ABC,9.90,300,10.00,200\n"
+    cause = b'"cause":"no time of day as HHMMSS with up to nine digits after it","text":"0930"}\n'
+    told = b'{"what":"refused","file":"given.csv","line":1,"column":1,' + cause
+    for more, status in ([], 0), (["no.csv"], 1), (["--shards"], 0), (["--shards", "no.csv"], 1):
+        ran, came = import_to_out(program, room, {"given.csv": rows, "out.rows": b"earlier\n"}, ["given.csv", *more, "--refused", "out.rows"])
+        wanted = (status, b"earlier\n" if status else told, [])
+        must((ran.returncode, came["out.rows"], [it for it in came if it.endswith(".part")]) == wanted, f"{more}: {ran.returncode}, {ran.stderr!r}, {came}")
+    os.mkfifo(os.path.join(room, "pipe"))
+    with subprocess.Popen(["cat", "pipe"], cwd=room, stdout=subprocess.PIPE) as reader:
+        import_to_out(program, room, {}, ["given.csv", "--refused", "pipe"])
+        compare("the pipe", reader.communicate(timeout=MOST)[0], told)
+
+
+def own_output(program, path):
+    """A file of --out that is standard output's own, by its name or by the temporary one, is refused and not removed."""
+    room = os.path.dirname(path)
+    rows = b"093000,N,ABC,9.90,300,10.00,200\n"
+    for name in ("out.changes", "out.times.part", "out.symbols"):
+        with open(os.path.join(room, name), "wb") as file:
+            words = ["import", "given.toml", "given.csv", "--out", "out", "--setup", "setup.toml"]
+            for other, text in {"given.toml": MAP, "setup.toml": SETUP, "given.csv": rows}.items():
+                with open(os.path.join(room, other), "wb") as it:
+                    it.write(text)
+            ran = called(program, words, stdout=file, stderr=subprocess.PIPE, cwd=room)
+        said = f"nms_review: {name.removesuffix('.part')}: usage: another file than that of standard output or standard error\n".encode()
+        must((ran.returncode, ran.stderr, read(room, name)) == (2, said, b""), f"{name}: {ran.returncode}, {ran.stderr!r}")
+
+
 def inputs_named_as_shards(program, path):
     """A vendor's file with the name of a shard's file is refused if that shard is made, and is never removed."""
     rows = b"".join(b"0930%02d,N,ABC,9.%d,300,10.%d,200\n" % (it // 4, 80 + it % 10, 10 + it % 7) for it in range(100))
@@ -531,7 +563,7 @@ TRIALS = [
     ("closed", refused), ("reader_gone", refused), ("long", long_records), ("far_name", long_names), ("far_fields", long_fields),
     ("mark", marked), ("mark_in_parts", nothing), ("harmless", each_byte), ("small_memory", large), ("no_memory", larger),
     ("one_found", among), ("one_too_many", too_many), ("name_found", many_symbols), ("most_faults", other_keys), ("pieces", each_other), ("cut_often", nothing),
-    ("withdrawn", nothing), ("lots_of_the_setup", nothing), ("out_of_one_import", nothing), ("inputs_named_as_shards", nothing),
+    ("withdrawn", nothing), ("lots_of_the_setup", nothing), ("out_of_one_import", nothing), ("rows_of_one_import", nothing), ("own_output", nothing), ("inputs_named_as_shards", nothing),
     ("shard_of", nothing), ("editor_lines", nothing), ("colours", unknown_kind),
 ]
 

@@ -8,6 +8,9 @@ Trades are judged on it, whether symbols are cut by time or not. The rows
 that `compare` gets are those of `stream`, some of them altered; each alteration must be found, and nothing else. A line
 for each difference, and last `N passed, M failed`; status 1 at a difference.
 """
+import bisect
+import csv
+import decimal
 import gzip
 import json
 import os
@@ -18,8 +21,8 @@ import sys
 import tempfile
 
 from import_judge import TRADE_NAMES
-from stored import EXAMPLES, MOST
-from trials import Trial, Wrong, run
+from stored import EXAMPLES, MOST, cases_of, command, read
+from trials import Trial, Wrong, compare, run
 
 
 def called(program, words, **how):
@@ -105,6 +108,16 @@ def real_day(program):
         must(day("torn", "2") == day("two", "2"), "what was left is not what was missing")
 
 
+# The findings of the first case of day.cases.
+FINDINGS = b"""\
+shard,record,id,time,symbol,side,price,shares,venue,version,finding,cause,rows,worst,worst_venue,passed_shares,best_bid,bid_shares,best_offer,offer_shares,quoted_spread,effective_spread,quote_place,improvement
+A.1,5,e,09:29:59.000000000,ABC,B,10.000000,100,N,0,noquote,,0,0.000000,,0,,,,,,,,
+A.2,3,c,09:30:00.000000000,XYZ,B,5.050000,100,P,4,clean,,0,0.000000,,0,5.0000,100,5.0500,100,0.050000000,0.050000000,at,0.000000000
+A.1,1,a,09:30:30.000000000,ABC,B,10.000000,100,N,2,clean,,0,0.000000,,0,9.9800,300,10.0100,200,0.030000000,0.010000000,improved,0.010000000
+A.2,2,b,09:32:00.000000000,ABC,B,10.020000,100,N,3,through,NONE,1,0.020000,P,100,9.9900,100,10.0000,100,0.010000000,0.050000000,outside,0.000000000
+,4,,,,,,,,,refused,X4,,,,,,,,,,,,
+"""
+
 # Stands in for the program. At call `at` of a job it kills the job, once.
 KILLER = r"""#!/usr/bin/env bash
 room=$(dirname "$0")
@@ -165,9 +178,9 @@ def jobs_that_die(program):
             must(ran.returncode == 1 and b"remove it first" in ran.stderr and files("right") == right, f"{more}, {path}: {ran.returncode}, {ran.stderr!r}")
 
 
-def made_trades(room, dice):
-    """Trades in the symbols of a made day, at the times of quotes and near them, at the cuts of one of its folders, and before the
-    first quote of all. Returns their file, how many they are, and the names of those in the second after a cut."""
+def made_trades(room, dice, each=30):
+    """Trades in the symbols of a made day: so many in each at the times of quotes and near them, and some at the cuts of one of its folders
+    and before the first quote of all. Returns their file, how many they are, and the names of those in the second after a cut."""
     quotes, trades, near = {}, [], set()
 
     def seconds(time):
@@ -183,10 +196,11 @@ def made_trades(room, dice):
             with open(os.path.join(room, "cut", letter, name), encoding="ascii") as file:
                 cuts += [(symbol, int(cut)) for symbol, cut in re.findall(r"(\w+) (?:from|until) (\d{15}),", file.read())]
     must(len(cuts) > 8, f"{len(cuts)} cuts")
-    for symbol, cut in [*cuts, *((it, None) for it in quotes for _ in range(30)), *((it, 93000000000000) for it in quotes)]:
-        time, price = dice.choice(quotes[symbol])
-        time = (cut or time) + dice.choice([0, 0, 0, 1, -1])
-        price = min(quotes[symbol], key=lambda it: abs(it[0] - time))[1] + dice.choice([-0.02, -0.01, 0, 0.01, 0.02])
+    for symbol, cut in [*cuts, *((it, None) for it in quotes for _ in range(each)), *((it, 93000000000000) for it in quotes)]:
+        own = quotes[symbol]
+        time = (cut or dice.choice(own)[0]) + dice.choice([0, 0, 0, 1, -1])
+        at = bisect.bisect(own, (time,))
+        price = own[min(at, len(own) - 1)][1] + dice.choice([-0.02, -0.01, 0, 0.01, 0.02])
         # The digit below 60 before the nanoseconds is kept: a nanosecond before a full minute would be no time.
         time = time if time // 10 ** 9 % 100 < 60 else time + 1
         if any(it == symbol and -0.1 < seconds(time) - seconds(at) < 1.1 for it, at in cuts):
@@ -194,7 +208,7 @@ def made_trades(room, dice):
         trades.append(f"{time:015}|{dice.choice('ABCDN')}|{symbol}|@   |{dice.randrange(1, 900)}|{max(price, 0.01):.2f}||00|1|{len(trades)}|N||||0\n")
     path = os.path.join(room, "trades.txt")
     with open(path, "w", encoding="ascii") as file:
-        file.write("|".join(TRADE_NAMES) + "\n" + "".join(trades))
+        file.write("|".join(TRADE_NAMES) + "\n" + "".join(trades) + f"END|20240102|{len(trades)}\n")
     return path, len(trades), near
 
 
@@ -216,9 +230,105 @@ def judged_by(program, room, out, path, *options):
     return answers
 
 
+def linked_outputs(program):
+    """A link from an output's name, or its temporary one, to a file of a shard is refused, and the file stays as it was. Without
+    the link the findings are these, after a call that failed too."""
+    cases = read("review", "day.cases")
+    case = next(it for it in cases_of("day.cases", cases) if "a day of two shards" in it.title)
+    with tempfile.TemporaryDirectory(prefix="nms-") as room:
+        for name, text in command(case).files.items():
+            os.makedirs(os.path.dirname(os.path.join(room, name)) or room, exist_ok=True)
+            with open(os.path.join(room, name), "wb") as file:
+                file.write(text)
+        shard = os.path.join(room, "d", "A.2.changes")
+        with open(shard, "rb") as file:
+            right = file.read()
+        for end in ("", ".part"):
+            path = os.path.join(room, f"o.findings.csv{end}")
+            for link in (os.link, os.symlink):
+                link(shard, path)
+                ran = called(program, ["day", "d", "--trades", "e.csv", "--out", "o"], capture_output=True, cwd=room)
+                with open(shard, "rb") as file:
+                    must((ran.returncode, file.read()) == (2, right), f"{path}: {ran.returncode}, {ran.stderr!r}")
+                if os.path.lexists(path):
+                    os.remove(path)
+        ran = called(program, ["day", "d", "--trades", "e.csv", "--out", "o"], capture_output=True, cwd=room)
+        with open(os.path.join(room, "o.findings.csv"), "rb") as file:
+            compare("findings", file.read(), FINDINGS)
+        must(ran.returncode == 6 and sorted(os.listdir(room)) == ["d", "e.csv", "o.findings.csv"], f"{ran.returncode}, {os.listdir(room)}")
+
+
+def setup_of_all(room, out):
+    """A setup with the symbols of all letters of a day that cuts none, in a file."""
+    text = ""
+    for letter in "ABC":
+        with open(os.path.join(room, out, letter, f"{letter}.1.toml"), encoding="utf-8") as file:
+            own = file.read()
+        text += own if letter == "A" else own[own.index("[[symbol]]"):]
+    path = os.path.join(room, "all.toml")
+    with open(path, "w", encoding="utf-8") as file:
+        file.write(text)
+    return path
+
+
+def by_script(room, out):
+    """The findings of trades.sh, by the name of the execution: the shard, the kind and what follows."""
+    with open(os.path.join(room, out, "day.judged"), encoding="ascii") as file:
+        lines = [line.rstrip("\n").split(",") for line in file]
+    return {it[2]: [it[0], it[1], *it[3:]] for it in lines if it[1] != "ROW"}
+
+
+def in_one_call(program, room, out, executions, *options):
+    """The day's findings by `day`, in the same form, and its table. They are by time, one for each record."""
+    name = os.path.join(room, f"{out}-day")
+    words = ["day", os.path.join(room, out), "--trades", executions, "--out", name, "--json", *options]
+    ran = called(program, words, capture_output=True)
+    must(ran.returncode == 0, f"{out}: status {ran.returncode}, {ran.stderr!r}")
+    with open(f"{name}.findings.csv", encoding="ascii", newline="") as file:
+        rows = list(csv.DictReader(file))
+    must([it["record"] for it in sorted(rows, key=lambda it: int(it["record"]))] == [str(it + 1) for it in range(len(rows))], "a record has no line, or two")
+    must(rows == sorted(rows, key=lambda it: (it["time"], int(it["record"]))), "the lines are not by time")
+    more = ("rows", "worst", "passed_shares", "cause")
+    found = {it["id"]: [it["shard"], it["finding"].upper(), it["version"], *(it[key] for key in more if it["cause"])] for it in rows}
+    return found, [json.loads(line) for line in ran.stdout.splitlines()]
+
+
+def summed(tables):
+    """The sums of some tables, by what a line is about: numbers are added, the worst differences are not."""
+    sums = {}
+    for line in (it for table in tables for it in table):
+        own = sums.setdefault((line["what"], line.get("name")), {})
+        for key, value in line.items():
+            if "worst" in key and value is not None:
+                own[key] = max(own.get(key, decimal.Decimal(0)), decimal.Decimal(value))
+            elif key not in ("what", "name", "per_10000", "other") and value is not None:
+                own[key] = own.get(key, 0) + decimal.Decimal(value)
+    return sums
+
+
+def tables_of_shards(program, room, out, *options):
+    """The table of each shard that trades.sh judged."""
+    for name in sorted(os.path.join(at, it) for at, _, files in os.walk(os.path.join(room, out)) for it in files if it.endswith(".executions")):
+        shard = name.removesuffix(".executions")
+        words = ["trades", f"{shard}.changes", name, "--times", f"{shard}.times", "--symbols", f"{shard}.symbols", "--setup", f"{shard}.toml"]
+        ran = called(program, [*words, "--table", "--json", *options], capture_output=True)
+        must(ran.returncode == 0, f"{shard}: {ran.returncode}, {ran.stderr!r}")
+        yield [json.loads(line) for line in ran.stdout.splitlines()]
+
+
+def one_call_as_scripts(program, room, executions, *options):
+    """A day in one call has the findings of trades.sh, execution by execution, and its table is the sum of the shards' tables."""
+    for out in ("whole", "cut"):
+        wanted = by_script(room, out)
+        found, table = in_one_call(program, room, out, executions, *options)
+        must(found == wanted, next((f"{out}: {it}: {found.get(it)}, and not {wanted[it]}" for it in wanted if found.get(it) != wanted[it]), "more"))
+        sums, own = summed(tables_of_shards(program, room, out, *options)), summed([table])
+        must(own == sums, next((f"{out}: {it}: {own.get(it)}, and not {sums[it]}" for it in sums if own.get(it) != sums[it]), "more sums"))
+
+
 def judged_day(program):
     """Trades of a made day are judged by the shards as they are by those of a day that cuts no symbol, each once: also at the very
-    time of a cut, with --before and without. A shard does not know what flickered before it began."""
+    time of a cut, with --before and without. A shard does not know what flickered before it began. In one call all is the same."""
     def without(answer):
         return [[re.sub(r"\+?FLICKER", "", field) or "NONE" for field in line] for line in answer]
     place = os.path.join(EXAMPLES, "real_day")
@@ -228,6 +338,8 @@ def judged_day(program):
             env = dict(os.environ, NMS_REVIEW=program, LIMIT=limit)
             called("bash", [os.path.join(place, "day.sh"), room, os.path.join(room, out), "2"], capture_output=True, env=env, check=True)
         path, count, near = made_trades(room, random.Random(56))
+        words = ["import", os.path.join(EXAMPLES, "import/taq-trades.toml"), path, "--out", os.path.join(room, "all")]
+        called(program, [*words, "--setup", setup_of_all(room, "whole")], capture_output=True)
         for options in ((), ("--before",)):
             whole = judged_by(program, room, "whole", path, *options)
             must(len(whole) == count, f"{len(whole)} answers, and not {count}")
@@ -237,6 +349,63 @@ def judged_day(program):
             for name in near:
                 whole[name], cut[name] = without(whole[name]), without(cut[name])
             must(cut == whole, next((f"{it}: {cut.get(it)}, and not {whole[it]}" for it in whole if cut.get(it) != whole[it]), "more"))
+            one_call_as_scripts(program, room, os.path.join(room, "all.executions"), *options)
+
+
+def one_tape(program, room):
+    """One tape of all letters of a made day, in the order of time. Returns the beginning of the names of its files."""
+    rows, out = [], os.path.join(room, "one")
+    for letter in "ABC":
+        with gzip.open(os.path.join(room, f"SPLITS_US_ALL_BBO_{letter}_20240102.gz"), "rt") as file:
+            head, *own, _ = file.readlines()
+        rows += own
+    rows.sort(key=lambda it: it[:15])
+    with open(f"{out}.txt", "w", encoding="ascii") as file:
+        file.write("".join([head, *rows, f"END|20240102|{len(rows)}\n"]))
+    words = ["import", os.path.join(EXAMPLES, "import/taq.toml"), f"{out}.txt", "--out", out, "--setup", setup_of_all(room, "whole")]
+    called(program, words, capture_output=True, check=True)
+    return out
+
+
+def judged_on_one_tape(program):
+    """A day that is cut by symbol and by time gives the findings of one tape of all letters, for each of 100,000 executions. A shard
+    does not know what flickered before it began."""
+    place = os.path.join(EXAMPLES, "real_day")
+    with tempfile.TemporaryDirectory(prefix="nms-") as room:
+        called(sys.executable, [os.path.join(place, "make_day.py"), room, "12000", "ABC", "4"], check=True)
+        for out, limit in (("whole", "10000000"), ("cut", "900")):
+            env = dict(os.environ, NMS_REVIEW=program, LIMIT=limit)
+            called("bash", [os.path.join(place, "day.sh"), room, os.path.join(room, out), "2"], capture_output=True, env=env, check=True)
+        path, count, near = made_trades(room, random.Random(57), 8400)
+        must(count > 100_000, f"{count} trades")
+        one, setup = one_tape(program, room), setup_of_all(room, "whole")
+        words = ["import", os.path.join(EXAMPLES, "import/taq-trades.toml"), path, "--out", one, "--setup", setup]
+        ran = called(program, words, capture_output=True)
+        must(ran.returncode == 0, f"{ran.returncode}, {ran.stdout!r}, {ran.stderr[-300:]!r}")
+        for options in ((), ("--before",)):
+            words = ["trades", f"{one}.changes", f"{one}.executions", "--times", f"{one}.times", "--setup", setup, "--columns", *options]
+            ran = called(program, words, capture_output=True, check=True)
+            words = ["day", os.path.join(room, "cut"), "--trades", f"{one}.executions", "--out", os.path.join(room, "cut-day"), *options]
+            called(program, words, capture_output=True, check=True)
+            with open(os.path.join(room, "cut-day.findings.csv"), "rb") as file:
+                cut = findings_of(file.read(), near)
+            wanted = findings_of(ran.stdout, near)
+            must(len(wanted) == count and len(set(it["finding"] for it in wanted.values())) > 2, f"{len(wanted)} findings, and not {count}")
+            must(cut == wanted, next((f"{it}: {cut.get(it)}, and not {wanted[it]}" for it in wanted if cut.get(it) != wanted[it]), "more"))
+
+
+def findings_of(text, near):
+    """Lines of columns by the name of the execution: without the shard and the version, which is the shard's own, and without
+    what flickered for those that are near."""
+    found = {}
+    for row in csv.DictReader(text.decode().splitlines()):
+        row.pop("shard", None)
+        row.pop("version")
+        must(row["id"] not in found, f"{row['id']} has two lines")
+        if row["id"] in near:
+            row["cause"] = re.sub(r"\+?FLICKER", "", row["cause"]) or "NONE"
+        found[row["id"]] = row
+    return found
 
 
 NATIONAL = ["--map", "nbbo.toml", "--times", "taq.times", "--setup", "../market.toml"]
@@ -306,5 +475,5 @@ def compared_day(program):
 
 
 if __name__ == "__main__":
-    TRIALS = [("a made day", real_day), ("jobs of a day that die", jobs_that_die), ("a made day's trades", judged_day), ("stored national bests", compared), ("altered national bests", compared_day)]
+    TRIALS = [("a made day", real_day), ("jobs of a day that die", jobs_that_die), ("a made day's trades", judged_day), ("100,000 executions on shards and on one tape", judged_on_one_tape), ("a day's output that is a link to a shard", linked_outputs), ("stored national bests", compared), ("altered national bests", compared_day)]
     sys.exit(run("review", [Trial(name, trial, (os.path.realpath(sys.argv[1]),)) for name, trial in TRIALS]))

@@ -18,9 +18,9 @@ use std::rt::Files;
 use std::time::Clock;
 
 /// What a host has to offer, so that a call can be served.
-pub(crate) trait Host: AllocGlobal + Clock + Eprint + Files {}
+pub(crate) trait Host: AllocGlobal + Clock + Clone + Drop + Eprint + Files {}
 
-impl<T: AllocGlobal + Clock + Eprint + Files> Host for T {}
+impl<T: AllocGlobal + Clock + Clone + Drop + Eprint + Files> Host for T {}
 
 /// A call that is served.
 #[derive(Drop)]
@@ -70,10 +70,19 @@ impl<'a, T: Host> Call<'a, T> {
         }
     }
 
-    /// The changes of a file.
+    /// The changes of a file, under the setup of the call.
     pub(crate) fn read_tape(&self, file: Path<'_>) -> Result<Tape<'a>, Fault> {
+        self.read_tape_under(self.setup, file)
+    }
+
+    /// The changes of a file, under a setup.
+    pub(crate) fn read_tape_under<'s>(
+        &self,
+        setup: &'s Setup,
+        file: Path<'_>,
+    ) -> Result<Tape<'s>, Fault> {
         let mut source = self.open(file)?;
-        let read = Tape::read(self.alloc(), self.setup, &mut source);
+        let read = Tape::read(self.alloc(), setup, &mut source);
         source.clear();
         match read {
             Ok(tape) => Ok(tape),

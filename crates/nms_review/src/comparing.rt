@@ -1,10 +1,9 @@
 //! The subcommand `compare`: compares a vendor's own national bests with those of a file of changes.
 
-use crate::answers::Answers;
 use crate::call::{Call, Host};
 use crate::fault::Fault;
-use crate::files::create_file;
 use crate::notices::refuse_map;
+use crate::outputs::{create_rows, publish_rows, remove_rows};
 use crate::request::Compare;
 use crate::vendor::{Rows, map_document, open_vendor};
 use nms_compare::{
@@ -49,6 +48,7 @@ fn compare_by<T: Host, W: Write>(
     let mut rows = open_vendor(call, compare.national, mapping.file())?;
     let compared = compare_with(call, compare, mapping, &keyed, &mut rows, answers);
     let failed = rows.close();
+    remove_rows(call, compare.refused);
     compared.map_err(|fault| fault.with_reason(failed))
 }
 
@@ -74,10 +74,9 @@ fn compare_with<T: Host, W: Write>(
         let (counts, sums) = compare_on(call, compare, showing, &vendor, keyed, rows, answers)?;
         return tell_counts(call, &counts, &sums, compare, answers);
     };
-    let created = create_file(call, file.name, file.about)?;
-    let mut out = match Answers::new(call.alloc(), created, false) {
+    let mut out = match create_rows(call, file) {
         Ok(out) => out,
-        Err(_) => return Err(Fault::no_memory()),
+        Err(fault) => return Err(fault),
     };
     let filed = Showing {
         alloc: call.alloc(),
@@ -89,6 +88,7 @@ fn compare_with<T: Host, W: Write>(
         return Err(Fault::unwritten(file.about));
     }
     let (counts, sums) = compared?;
+    publish_rows(call, compare.refused)?;
     tell_counts(call, &counts, &sums, compare, answers)
 }
 

@@ -122,7 +122,7 @@ impl<'a, T: Host> Shards<'a, T, T::File> {
         }
         self.finish_shard()?;
         self.kept.told.errors.finish()?;
-        publish_shards(call, import.out, self.shards)?;
+        publish_shards(call, import, self.shards)?;
         write_shards(self.shards, self.openings, answers)?;
         self.kept.report(call, import, answers)
     }

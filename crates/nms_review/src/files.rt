@@ -10,25 +10,48 @@ use std::os::unix::fs::MetadataExt;
 use std::rt::Files;
 
 /// The options that name files which a call with an output reads, besides its own words.
-const READ: [&'static str; 4] = ["setup", "times", "symbols", "map"];
+const READ: [&'static str; 5] = ["setup", "times", "symbols", "map", "trades"];
+/// Where the system shows standard output and standard error.
+const STREAMS: [&'static str; 2] = ["/dev/stdout", "/dev/stderr"];
 
-/// A new file at a path. A file that the call reads is never overwritten, by any name or link that leads to it. E2 is about the
-/// given argument.
+/// A new file at a path that is not in use. E2 is about the given argument.
 pub(crate) fn create_file<T: Host>(
     call: &Call<'_, T>,
     path: &str,
     about: About,
 ) -> Result<T::File, Fault> {
-    refuse_input(call, path)?;
+    refuse_used(call, path, about)?;
     fs::create(call.rt, path).map_err(|_| Fault::unwritten(about))
 }
 
-/// Refuses a path that leads to a file that the call reads.
-pub(crate) fn refuse_input<T: Host>(call: &Call<'_, T>, path: &str) -> Result<(), Fault> {
-    match input_at(call.rt, call.words, path) {
-        Some(about) => Err(Fault::usage(about, "it is read here, and would be overwritten")),
-        None => Ok(()),
+/// Refuses a path that leads to a file that the call reads, or to that of a standard stream, by any name or link. The given
+/// argument is that of the output.
+pub(crate) fn refuse_used<T: Host>(
+    call: &Call<'_, T>,
+    path: &str,
+    about: About,
+) -> Result<(), Fault> {
+    let Some(own) = identity_of(call.rt, path) else {
+        return Ok(());
+    };
+    if let Some(input) = input_at(call.rt, call.words, own) {
+        return Err(Fault::usage(input, "it is read here, and would be overwritten"));
     }
+    if is_stream(call.rt, own) {
+        let expected = "another file than that of standard output or standard error";
+        return Err(Fault::usage(about, expected));
+    }
+    Ok(())
+}
+
+/// Whether standard output or standard error is written to this file.
+fn is_stream<T: Files>(rt: &T, own: (u64, u64)) -> bool {
+    for stream in STREAMS {
+        if is_at(rt, Some(stream), own) {
+            return true;
+        }
+    }
+    false
 }
 
 /// Whether two paths are the same, or lead to the same plain file.
@@ -41,9 +64,13 @@ pub(crate) fn is_file<T: Files>(rt: &T, path: &str) -> bool {
     identity_of(rt, path).is_some()
 }
 
-/// The argument that names the file at a path, if the call reads it.
-fn input_at<T: Files>(rt: &T, words: &Words<'_>, path: &str) -> Option<About> {
-    let own = identity_of(rt, path)?;
+/// Whether a path leads to what is no plain file, as a pipe or a device.
+pub(crate) fn is_special<T: Files>(rt: &T, path: &str) -> bool {
+    fs::metadata(rt, path).is_ok() && !is_file(rt, path)
+}
+
+/// The argument that names this file, if the call reads it.
+fn input_at<T: Files>(rt: &T, words: &Words<'_>, own: (u64, u64)) -> Option<About> {
     for place in 0..words.own.len() {
         if is_at(rt, words.word(place), own) {
             return Some(About::Word(place));

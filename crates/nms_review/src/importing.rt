@@ -6,7 +6,7 @@ use crate::cutting::cut_files;
 use crate::fault::{About, Fault, Output};
 use crate::importing_trades::serve_trade_map;
 use crate::notices::{note_odd_hours, note_setup, note_short, refuse_columns, refuse_map};
-use crate::outputs::{QUOTES, check_outputs, create, flush, publish, remove_parts};
+use crate::outputs::{QUOTES, check_outputs, create, flush, publish, remove_parts, remove_rows};
 use crate::refused_rows::{RefusedRows, refused_rows};
 use crate::request::{Import, Path};
 use crate::vendor::{Rows, fault_in, map_document, open_vendor};
@@ -37,6 +37,17 @@ const SYMBOLS: Output = Output {
 /// Makes changes, or executions, from a vendor's files. The written files are complete even if a guard reports a doubt. After a
 /// failure the files of an earlier import are as they were.
 pub(crate) fn serve_import<T: Host, W: Write>(
+    call: &Call<'_, T>,
+    import: &Import<'_>,
+    answers: &mut W,
+) -> Result<Ending, Fault> {
+    let ended = import_by_map(call, import, answers);
+    remove_rows(call, import.refused);
+    ended
+}
+
+/// Makes changes, or executions, as the mapping says.
+fn import_by_map<T: Host, W: Write>(
     call: &Call<'_, T>,
     import: &Import<'_>,
     answers: &mut W,
@@ -237,7 +248,7 @@ impl<'a, T: Host> Quotes<'a, T, T::File> {
         flush(&mut self.times, TIMES)?;
         flush(&mut self.symbols, SYMBOLS)?;
         self.kept.told.errors.finish()?;
-        publish(call, import.out, ends)?;
+        publish(call, import.out, import.refused, ends)?;
         self.kept.report(call, import, answers)
     }
 

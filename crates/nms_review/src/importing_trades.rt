@@ -107,7 +107,7 @@ impl<'a, T: Host> Executions<'a, T, T::File> {
         }
         flush(&mut self.executions, EXECUTIONS)?;
         self.told.errors.finish()?;
-        publish(call, import.out, &TRADES)?;
+        publish(call, import.out, import.refused, &TRADES)?;
         let sums = self.sums()?;
         let tally = &self.tally;
         write_trade_tally(answers, tally, &sums)?;

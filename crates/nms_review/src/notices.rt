@@ -150,6 +150,18 @@ pub(crate) fn note_setup<T: Host>(
     }
 }
 
+/// Says at which place the fault is that is reported next: a file of a shard, or a record.
+pub(crate) fn note_place<'x, T: Host>(
+    call: &Call<'_, T>,
+    word: &'x str,
+    place: Item<'x>,
+) -> Result<(), Fault> {
+    show_line(
+        call,
+        &[Item::Text("nms_review: at "), Item::Text(word), place],
+    )
+}
+
 /// Says that a setup takes no more symbols.
 pub(crate) fn note_full<T: Host>(call: &Call<'_, T>) -> Result<(), Fault> {
     let text =

@@ -1,9 +1,11 @@
 //! The files that an import writes. Each is written under a temporary name next to its own, and all get their names at the end.
-//! Until then, and after a failure, the files of an earlier import stay as they were.
+//! Until then, and after a failure, the files of an earlier import stay as they were. The rows of `--refused` are such a file too,
+//! also those of a comparison.
 use crate::answers::Answers;
 use crate::call::{Call, Host};
 use crate::fault::{About, Fault, Output};
-use crate::files::{create_file, is_file, is_same, refuse_input};
+use crate::files::{create_file, is_file, is_same, is_special, refuse_used};
+use crate::request::{Import, Path};
 use std::alloc::Global;
 use std::fs;
 use std::io::Write;
@@ -14,10 +16,12 @@ const PART: &str = ".part";
 pub(crate) const QUOTES: [&'static str; 3] = [".symbols", ".times", ".changes"];
 /// The file of an import of trades.
 pub(crate) const TRADES: [&'static str; 1] = [".executions"];
+/// The file of the findings of a day.
+pub(crate) const DAY: [&'static str; 1] = [".findings.csv"];
 /// The files of a shard. Every reader needs the last one.
 pub(crate) const SHARD: [&'static str; 4] = [".toml", ".symbols", ".times", ".changes"];
 
-/// Refuses an output that the call reads, by its own name or by the temporary one, and an output that is no plain file.
+/// Refuses an output that is in use, by its own name or by the temporary one, and an output that is no plain file.
 pub(crate) fn check_outputs<T: Host>(
     call: &Call<'_, T>,
     name: &str,
@@ -28,42 +32,108 @@ pub(crate) fn check_outputs<T: Host>(
         let output = Output { shard, end };
         let own = path_of(call.alloc(), name, output, "")?;
         let part = path_of(call.alloc(), name, output, PART)?;
-        refuse_input(call, own.as_str())?;
-        refuse_input(call, part.as_str())?;
+        refuse_used(call, own.as_str(), About::Out(output))?;
+        refuse_used(call, part.as_str(), About::Out(output))?;
         refuse_twice(call, own.as_str())?;
         refuse_twice(call, part.as_str())?;
-        if fs::metadata(call.rt, own.as_str()).is_ok() && !is_file(call.rt, own.as_str()) {
+        if is_special(call.rt, own.as_str()) {
             return Err(Fault::unwritten(About::Out(output)));
         }
     }
     Ok(())
 }
 
-/// Refuses an output that is the file of refused rows too.
-fn refuse_twice<T: Host>(call: &Call<'_, T>, path: &str) -> Result<(), Fault> {
-    match call.words.option("refused") {
-        Some(refused) if is_same(call.rt, path, refused) => Err(Fault::usage(
-            About::Value("refused"),
-            "another file than those of --out",
-        )),
-        Some(_) | None => Ok(()),
+/// Refuses a file that is read under another name than those of the arguments, if it is an output or would be one under its
+/// temporary name.
+pub(crate) fn refuse_read<T: Host>(
+    call: &Call<'_, T>,
+    name: &str,
+    output: Output,
+    path: &str,
+) -> Result<(), Fault> {
+    for more in ["", PART] {
+        let written = path_of(call.alloc(), name, output, more)?;
+        if is_same(call.rt, written.as_str(), path) {
+            let expected = "another file than those of the day, which are read here";
+            return Err(Fault::usage(About::Value("out"), expected));
+        }
     }
+    Ok(())
 }
 
-/// A new file under its temporary name. One whose own name the call reads is refused: it would be overwritten in the end.
+/// Refuses an output that is the file of refused rows too, by its own name or by the temporary one.
+fn refuse_twice<T: Host>(call: &Call<'_, T>, path: &str) -> Result<(), Fault> {
+    let about = About::Value("refused");
+    let Some(name) = call.words.option("refused") else {
+        return Ok(());
+    };
+    let part = part_of(call, Path { name, about })?;
+    if is_same(call.rt, path, name) || is_same(call.rt, path, part.as_str()) {
+        return Err(Fault::usage(about, "another file than those of --out"));
+    }
+    Ok(())
+}
+
+/// A new file under its temporary name. One whose own name is in use is refused: it would be overwritten in the end.
 pub(crate) fn create<T: Host>(
     call: &Call<'_, T>,
     name: &str,
     output: Output,
 ) -> Result<Answers<T::File>, Fault> {
     let own = path_of(call.alloc(), name, output, "")?;
-    refuse_input(call, own.as_str())?;
+    refuse_used(call, own.as_str(), About::Out(output))?;
     refuse_twice(call, own.as_str())?;
     let part = path_of(call.alloc(), name, output, PART)?;
     refuse_twice(call, part.as_str())?;
     match create_file(call, part.as_str(), About::Out(output)) {
         Ok(file) => Answers::new(call.alloc(), file, false).map_err(|_| Fault::no_memory()),
         Err(fault) => Err(fault),
+    }
+}
+
+/// A new file of rows, under its temporary name. What is no plain file, as a pipe, is written itself.
+pub(crate) fn create_rows<T: Host>(
+    call: &Call<'_, T>,
+    rows: Path<'_>,
+) -> Result<Answers<T::File>, Fault> {
+    refuse_used(call, rows.name, rows.about)?;
+    let part = part_of(call, rows)?;
+    let path = if is_special(call.rt, rows.name) {
+        rows.name
+    } else {
+        part.as_str()
+    };
+    match create_file(call, path, rows.about) {
+        Ok(file) => Answers::new(call.alloc(), file, false).map_err(|_| Fault::no_memory()),
+        Err(fault) => Err(fault),
+    }
+}
+
+/// Gives a file of rows its name, if there is one that was written under its temporary name.
+pub(crate) fn publish_rows<T: Host>(
+    call: &Call<'_, T>,
+    rows: Option<Path<'_>>,
+) -> Result<(), Fault> {
+    let Some(rows) = rows else {
+        return Ok(());
+    };
+    if is_special(call.rt, rows.name) {
+        return Ok(());
+    }
+    let part = part_of(call, rows)?;
+    fs::rename(call.rt, part.as_str(), rows.name).map_err(|_| Fault::unwritten(rows.about))
+}
+
+/// Removes a file of rows that is left under its temporary name.
+pub(crate) fn remove_rows<T: Host>(call: &Call<'_, T>, rows: Option<Path<'_>>) {
+    let Some(rows) = rows else {
+        return;
+    };
+    if is_special(call.rt, rows.name) {
+        return;
+    }
+    if let Ok(part) = part_of(call, rows) {
+        let _ = remove_at(call, part.as_str(), rows.about);
     }
 }
 
@@ -74,32 +144,37 @@ pub(crate) fn flush<W: Write>(writer: &mut W, output: Output) -> Result<(), Faul
         .map_err(|_| Fault::unwritten(About::Out(output)))
 }
 
-/// Gives the files of one import their names. Every reader needs the last of `ends`. So its earlier file is removed first and
-/// the new one comes last, and no one reads it with files of another import.
+/// Gives the files of one import their names, also that of its refused rows. Every reader needs the last of `ends`. So its earlier
+/// file is removed first and the new one comes last, and no one reads it with files of another import.
 pub(crate) fn publish<T: Host>(
     call: &Call<'_, T>,
     name: &str,
+    refused: Option<Path<'_>>,
     ends: &[&'static str],
 ) -> Result<(), Fault> {
-    if ends.len() > 1 {
+    if ends.len() > 1 || refused.is_some() {
         if let Some(end) = ends.last() {
             remove(call, name, Output { shard: 0, end }, "")?;
         }
     }
+    publish_rows(call, refused)?;
     for end in ends {
         give_name(call, name, Output { shard: 0, end })?;
     }
     Ok(())
 }
 
-/// Gives the files of shards their names, and removes the shards of an earlier import, also those past the last new one. The
-/// changes of the first shard are removed first and come last, because the shards can't be read without them.
+/// Gives the files of shards their names, also that of the refused rows, and removes the shards of an earlier import, also those
+/// past the last new one. The changes of the first shard are removed first and come last, because the shards can't be read without
+/// them.
 pub(crate) fn publish_shards<T: Host>(
     call: &Call<'_, T>,
-    name: &str,
+    import: &Import<'_>,
     shards: u64,
 ) -> Result<(), Fault> {
+    let name = import.out;
     remove_shards(call, name, shards)?;
+    publish_rows(call, import.refused)?;
     for shard in 1..=shards {
         for end in [".toml", ".symbols", ".times"] {
             give_name(call, name, Output { shard, end })?;
@@ -151,7 +226,7 @@ fn give_name<T: Host>(call: &Call<'_, T>, name: &str, output: Output) -> Result<
     )))
 }
 
-/// Removes a file, if it is there and the call does not read it.
+/// Removes an output, if it is there and not in use.
 fn remove<T: Host>(
     call: &Call<'_, T>,
     name: &str,
@@ -159,10 +234,21 @@ fn remove<T: Host>(
     more: &str,
 ) -> Result<(), Fault> {
     let path = path_of(call.alloc(), name, output, more)?;
-    if !is_file(call.rt, path.as_str()) || refuse_input(call, path.as_str()).is_err() {
+    remove_at(call, path.as_str(), About::Out(output))
+}
+
+/// Removes the file at a path, if it is there and not in use.
+fn remove_at<T: Host>(call: &Call<'_, T>, path: &str, about: About) -> Result<(), Fault> {
+    if !is_file(call.rt, path) || refuse_used(call, path, about).is_err() {
         return Ok(());
     }
-    fs::remove_file(call.rt, path.as_str()).map_err(|_| Fault::unwritten(About::Out(output)))
+    fs::remove_file(call.rt, path).map_err(|_| Fault::unwritten(about))
+}
+
+/// The temporary name of a file of rows.
+fn part_of<T: Host>(call: &Call<'_, T>, rows: Path<'_>) -> Result<String, Fault> {
+    let name = rows.name;
+    format!(in call.alloc(); "{name}{PART}").map_err(|_| Fault::no_memory())
 }
 
 /// The path of an output: the name that `--out` gives, the number of the shard if there are shards, and an end.

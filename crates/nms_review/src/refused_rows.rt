@@ -2,8 +2,8 @@
 use crate::answers::Answers;
 use crate::call::{Call, Host};
 use crate::fault::{About, Fault};
-use crate::files::create_file;
 use crate::notices::show_kept;
+use crate::outputs::create_rows;
 use crate::request::Import;
 use nms_import::{Meanings, Telling};
 use nms_show::Form;
@@ -33,10 +33,9 @@ pub(crate) fn refused_rows<T: Host>(
         return Ok((telling, RefusedRows::Kept(Vec::new(call.alloc()))));
     };
     let telling = Telling::new(call.alloc(), Form::Json, meanings);
-    let file = create_file(call, file.name, file.about)?;
-    match Answers::new(call.alloc(), file, false) {
+    match create_rows(call, file) {
         Ok(answers) => Ok((telling, RefusedRows::Filed(answers, true))),
-        Err(_) => Err(Fault::no_memory()),
+        Err(fault) => Err(fault),
     }
 }
 

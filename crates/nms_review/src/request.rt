@@ -57,6 +57,7 @@ pub(crate) enum Request<'a> {
     Import(Import<'a>),
     When(When<'a>),
     Trades(Trades<'a>),
+    Day(DayOf<'a>),
     Compare(Compare<'a>),
 }
 
@@ -192,6 +193,20 @@ pub(crate) struct Trades<'a> {
     pub(crate) bests: bool,
 }
 
+/// What `day` is asked for.
+#[derive(Drop)]
+pub(crate) struct DayOf<'a> {
+    /// The folders of the shards.
+    pub(crate) folders: Vec<Path<'a>>,
+    pub(crate) executions: Path<'a>,
+    /// The beginning of the written file's name.
+    pub(crate) out: &'a str,
+    /// Whether the changes of an execution's own time are left out.
+    pub(crate) before: bool,
+    /// The window, in nanoseconds.
+    pub(crate) window: Option<u64>,
+}
+
 /// What `compare` is asked for.
 #[derive(Drop)]
 pub(crate) struct Compare<'a> {
@@ -231,6 +246,7 @@ pub(crate) fn request_of<'a>(alloc: Global, words: &Words<'a>) -> Result<Request
         Sub::Import => imported(alloc, words),
         Sub::When => sought(alloc, words),
         Sub::Trades => Ok(judged(words)),
+        Sub::Day => judged_day(alloc, words),
         Sub::Compare => Ok(Request::Compare(Compare {
             changes: own_file(words, 0),
             national: own_file(words, 1),
@@ -333,12 +349,7 @@ fn drawn<'a>(words: &Words<'a>) -> Request<'a> {
 
 /// What `import` is asked for.
 fn imported<'a>(alloc: Global, words: &Words<'a>) -> Result<Request<'a>, Fault> {
-    let mut files = Vec::new(alloc);
-    for place in 1..words.own.len() {
-        if files.push(own_file(words, place)).is_err() {
-            return Err(Fault::no_memory());
-        }
-    }
+    let files = own_files(alloc, words, 1)?;
     if words.has("shards") && words.has("add-symbols") {
         let expected = "--shards adds symbols itself, and goes with no --add-symbols";
         return Err(Fault::usage(About::Nothing, expected));
@@ -434,6 +445,17 @@ fn judged<'a>(words: &Words<'a>) -> Request<'a> {
     })
 }
 
+/// What `day` is asked for.
+fn judged_day<'a>(alloc: Global, words: &Words<'a>) -> Result<Request<'a>, Fault> {
+    Ok(Request::Day(DayOf {
+        folders: own_files(alloc, words, 0)?,
+        executions: needed_file(words, "trades"),
+        out: words.option("out").unwrap_or(""),
+        before: words.has("before"),
+        window: window_in(words)?,
+    }))
+}
+
 /// What `trades` is to print. At most one of three is given. Columns are CSV and not objects.
 fn layout_given(words: &Words<'_>) -> Result<Layout, Fault> {
     let columns = words.has("columns");
@@ -462,7 +484,12 @@ fn window_given(words: &Words<'_>) -> Result<Option<u64>, Fault> {
             "--window, --before and --symbols need --times",
         ));
     }
-    let Some(word) = window else {
+    window_in(words)
+}
+
+/// The nanoseconds that `--window` gives.
+fn window_in(words: &Words<'_>) -> Result<Option<u64>, Fault> {
+    let Some(word) = words.option("window") else {
         return Ok(None);
     };
     match digits_in(word) {
@@ -485,6 +512,17 @@ fn own_file<'a>(words: &Words<'a>, place: usize) -> Path<'a> {
         name: own_word(words, place),
         about: About::Word(place),
     }
+}
+
+/// The files that the subcommand's own arguments name, from a place on.
+fn own_files<'a>(alloc: Global, words: &Words<'a>, first: usize) -> Result<Vec<Path<'a>>, Fault> {
+    let mut files = Vec::new(alloc);
+    for place in first..words.own.len() {
+        if files.push(own_file(words, place)).is_err() {
+            return Err(Fault::no_memory());
+        }
+    }
+    Ok(files)
 }
 
 /// The file that an option names. The parser makes sure that it is there.

@@ -1,6 +1,7 @@
 //! The service of each subcommand: it opens the files, and calls a library for the answer.
 use crate::call::{Call, Host};
 use crate::comparing::serve_compare;
+use crate::day::serve_day;
 use crate::drawing::{drawing_fault, serve_draw};
 use crate::explaining::serve_explain;
 use crate::fault::{About, Fault};
@@ -61,6 +62,7 @@ fn serve_request<T: Host, W: Write>(
         Request::Import(import) => serve_import(call, import, answers),
         Request::When(when) => serve_when(call, when, answers),
         Request::Trades(trades) => serve_trades(call, trades, answers),
+        Request::Day(day) => serve_day(call, day, answers),
         Request::Compare(compare) => serve_compare(call, compare, answers),
     }
 }

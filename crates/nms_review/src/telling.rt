@@ -67,9 +67,10 @@ fn write_tip<E: Write>(fault: &Fault, words: &Words<'_>, errors: &mut E) -> Resu
     write_line(errors, Form::Text { colours: false }, &items)
 }
 
-/// The kind of the file that was refused, as `explain` names it. Only records and setups have places that it shows.
+/// The kind of the file that was refused, as `explain` names it. Only records and setups have places that it shows, and the files of
+/// a day are no arguments.
 fn kind_of(fault: &Fault, command: Sub) -> Option<&'static str> {
-    if command == Sub::Explain {
+    if matches!(command, Sub::Explain | Sub::Day) {
         return None;
     }
     match fault.code.matter() {

@@ -2,6 +2,7 @@ mod AnswerFacts
 mod BestFacts
 mod BestSteps
 mod ColumnFacts
+mod DayFacts
 mod OkFacts
 mod OrderFacts
 mod OwnFacts

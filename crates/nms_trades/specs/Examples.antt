@@ -8,6 +8,7 @@ use Rattle.nms_quote.specs.declared.side_quote.Side.TheVariants.{Bid}
 use Rattle.nms_show.specs.declared.ending.Ending.TheVariants as ending
 use Rattle.nms_trades.specs.Answers.{in_order, number_of}
 use Rattle.nms_trades.specs.Columns.{clock_text, worst_by}
+use Rattle.nms_trades.specs.Day.{judged_among, of_day}
 use Rattle.nms_trades.specs.Files.{ending_of}
 use Rattle.nms_trades.specs.Lines.{causes_text}
 use Rattle.nms_trades.specs.Quality.{quality_at, quality_between, size_class}
@@ -19,6 +20,8 @@ use Rattle.nms_trades.specs.declared.execution.Deal.TheVariants.{Bought, Sold}
 use Rattle.nms_trades.specs.declared.execution.Execution.{Execution}
 use Rattle.nms_trades.specs.declared.execution_file.Refusal.{Refusal}
 use Rattle.nms_trades.specs.declared.quality.Place.TheVariants as place
+use Rattle.nms_trades.specs.declared.said.Line.{Line}
+use Rattle.nms_trades.specs.declared.said.Said.TheVariants as said
 use Rattle.nms_trades.specs.declared.stretch.Stretch.{Stretch}
 use Rattle.nms_trades.specs.declared.trade_fault.TradeFault.TheVariants as fault
 
@@ -80,6 +83,15 @@ pub record ExamplesHold : Type 0 where
   pub it_ends_before_the_next : is_own false five_to_nine 9 ≡ false
   pub without_its_own_time_it_begins_later : is_own true five_to_nine 5 ≡ false
   pub and_ends_later : is_own true five_to_nine 9 ≡ true
+  -- of three shards the first does not have the symbol, the second judges the execution, and the third leaves it to another
+  pub the_second_decides : (line : Line) → of_day (said.Unknown ∷ said.Here line ∷ said.Elsewhere ∷ []) ≡ Some (said.Here line)
+  pub one_judges : (line : Line) → judged_among (said.Unknown ∷ said.Here line ∷ said.Elsewhere ∷ []) ≡ 1
+  -- a shard that is there twice, and one that is absent
+  pub two_may_not : (line other : Line) → of_day (said.Here line ∷ said.Unknown ∷ said.Here other ∷ []) ≡ None
+  pub no_one_does : of_day (said.Elsewhere ∷ said.Unknown ∷ []) ≡ Some said.Elsewhere
+  -- the shard of its symbol refuses a record, and no shard has the symbol
+  pub one_refuses : of_day (said.Unknown ∷ said.Refused fault.BadPrice ∷ said.Unknown ∷ []) ≡ Some (said.Refused fault.BadPrice)
+  pub none_has_the_symbol : of_day (said.Unknown ∷ said.Unknown ∷ []) ≡ Some said.Unknown
   -- 200 shares lose 0.02 dollar each, and the 200 that are left 0.01: 6 dollars
   pub both_bids : (execution : Execution)
       → sums_in (sold execution claims_nothing) 400 (first_bid ∷ second_bid ∷ [])

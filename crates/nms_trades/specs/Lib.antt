@@ -7,6 +7,7 @@ pub mod Bests
 pub mod Causes
 pub mod Columns
 pub mod Counts
+pub mod Day
 pub mod Examples
 pub mod Faults
 pub mod FileFaults

@@ -1,5 +1,5 @@
 //! Laws about the definitions. Each function does nothing: its contract is the law.
-ghost use Rattle.std.specs.Prelude.{◌≡◌, ◌≤◌, ℕ, ◌*◌, All, Bool, List, None, false, length, nat_lt, true};
+ghost use Rattle.std.specs.Prelude.{◌≡◌, ◌≤◌, ℕ, ◌*◌, All, Bool, List, None, Some, false, length, nat_lt, true};
 ghost use Rattle.nms_quote.specs.Roster.{Listing, Sizes};
 ghost use Rattle.nms_quote.specs.Tape.{Tape};
 ghost use Rattle.nms_quote.specs.declared.side_quote.Side.TheVariants.{Bid, Offer};
@@ -7,12 +7,14 @@ ghost use Rattle.nms_board.specs.Ranking.{better_price};
 ghost use Rattle.nms_trades.specs.Answers.{Answer, answer_records};
 ghost use Rattle.nms_trades.specs.Around.{standing_over};
 ghost use Rattle.nms_trades.specs.Columns.{column_names};
+ghost use Rattle.nms_trades.specs.Day.{judged_among, of_day, once};
 ghost use Rattle.nms_trades.specs.Examples.{ExamplesHold};
 ghost use Rattle.nms_trades.specs.Found.{answer_in};
 ghost use Rattle.nms_trades.specs.Judged.{whole_price};
 ghost use Rattle.nms_trades.specs.Quoted.{is_unquoted};
 ghost use Rattle.nms_trades.specs.Stretch.{owners, rise_from, stretches};
 ghost use Rattle.nms_trades.specs.declared.execution.Execution.{Execution};
+ghost use Rattle.nms_trades.specs.declared.said.Said.{Said};
 ghost use Rattle.nms_trades.specs.declared.shape.Shape.TheVariants as shape;
 ghost use Rattle.nms_trades.specs.declared.standing.Standing.TheVariants as standing;
 
@@ -34,6 +36,13 @@ pub fn a_window_is_all_or_none()
 /// If the cuts of a symbol do not fall, exactly one of its shards judges an execution. This also holds at the time of a cut.
 pub fn one_shard_judges()
     ensures { (before : Bool) (cuts : List ℕ) (t : ℕ) → rise_from 0 cuts ≡ true → length (owners before t (stretches None cuts)) ≡ 1 }
+{}
+
+/// Suppose that the shards of a day say something together about a record. Then exactly one of them judges it, if it is judged, and
+/// else none. They say nothing only if two judge it.
+pub fn a_day_judges_once()
+    ensures once { (shards : List Said) (it : Said) → of_day shards ≡ Some it → judged_among shards ≡ once it }
+    ensures twice { (shards : List Said) → of_day shards ≡ None → 2 ≤ judged_among shards }
 {}
 
 /// For a clean execution, its symbol had a quotation on each version of its window.

@@ -8,6 +8,8 @@ mod cause;
 mod claims;
 mod clock;
 mod columns;
+mod day;
+mod day_fault;
 mod execution;
 mod execution_file;
 mod finding;
@@ -27,6 +29,7 @@ mod quality;
 mod quality_table;
 mod quoted;
 mod reading;
+mod said;
 mod shape;
 mod showing;
 mod standing;
@@ -46,13 +49,15 @@ pub const MOST_EXECUTIONS: u64 = 10_000_000;
 pub use cause::{CAUSES, Cause};
 pub use claims::Claims;
 pub use clock::Timing;
+pub use day::Day;
+pub use day_fault::DayFault;
 pub use execution::{Deal, Execution};
 pub use execution_file::{Records, Refusal};
 pub use finding::{Best, Finding};
 pub use judging::judge_all;
 pub use laws::{
-    a_clean_one_was_quoted, a_whole_price_decides, a_window_is_all_or_none, each_column_has_a_name,
-    one_shard_judges, worked_examples,
+    a_clean_one_was_quoted, a_day_judges_once, a_whole_price_decides, a_window_is_all_or_none,
+    each_column_has_a_name, one_shard_judges, worked_examples,
 };
 pub use lines::{write_answers, write_columns};
 pub use millionths::{MOST_MILLIONTHS, millionths_in, push_millionths};

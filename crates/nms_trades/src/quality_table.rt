@@ -12,7 +12,7 @@ use crate::table::{
     About, Aside, COLUMNS, tally_of, write_half_hours, write_head, write_parts, write_row,
     write_symbols,
 };
-use crate::tally::{Count, Places, Tally};
+use crate::tally::{Count, Names, Places, Tally};
 use crate::trades_fault::TradesFault;
 use crate::worth::{SIZES, Worth, name_of_size};
 use nms_quote::Roster;
@@ -46,7 +46,7 @@ pub fn write_quality<W: Write>(
         refused: records.refused.len() as u64,
         others: tally.others,
     };
-    match print_quality(alloc, roster, &tally, aside, form, answers) {
+    match print_quality(alloc, &tally, aside, form, answers) {
         Ok(()) => Ok(()),
         Err(fault) => Err(TradesFault::Show(fault)),
     }
@@ -56,7 +56,6 @@ pub fn write_quality<W: Write>(
 #[tactic(auto, using(nms_show::proofs::Offered::no_part_added))]
 fn print_quality<W: Write>(
     alloc: Global,
-    roster: &Roster,
     tally: &Tally,
     aside: Aside,
     form: Form,
@@ -66,7 +65,7 @@ fn print_quality<W: Write>(
 {
     let mut out = SafeText::new(alloc, form);
     write_all(&tally.all, aside, &mut out)?;
-    write_places(roster, &tally.places, &mut out)?;
+    write_places(&tally.names, &tally.places, &mut out)?;
     out.pass_on(answers)
 }
 
@@ -208,10 +207,10 @@ fn write_quality_row(name: Item<'_>, count: &Count, out: &mut SafeText) -> Resul
 }
 
 /// Writes the quality by participant that executed, by symbol, by size and by half hour.
-fn write_places(roster: &Roster, places: &Places, out: &mut SafeText) -> Result<(), AllocError> {
+fn write_places(names: &Names, places: &Places, out: &mut SafeText) -> Result<(), AllocError> {
     write_head(About::Quality, "executed by", out)?;
-    write_parts(About::Quality, roster, "executed", &places.executed, out)?;
-    write_symbols(About::Quality, roster, &places.syms, out)?;
+    write_parts(About::Quality, names, "executed", &places.executed, out)?;
+    write_symbols(About::Quality, names, &places.syms, out)?;
     write_head(About::Quality, "size", out)?;
     for place in 0..SIZES {
         write_worth(

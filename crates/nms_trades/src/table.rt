@@ -13,10 +13,9 @@ use crate::execution::Execution;
 use crate::execution_file::Records;
 use crate::finding::Finding;
 use crate::quality_table::{write_quality_head, write_worth};
-use crate::tally::{Amount, Count, HALF_HOURS, Places, Tally};
+use crate::tally::{Amount, Count, HALF_HOURS, Names, Places, Tally};
 use crate::trades_fault::TradesFault;
-use nms_lines::{name_of_part, name_of_sym};
-use nms_quote::{Part, Roster, Sym};
+use nms_quote::Roster;
 use nms_show::{Column, Form, Item, SafeText, ShowFault};
 use nms_units::Money;
 use std::alloc::{AllocError, Global};
@@ -50,7 +49,7 @@ pub fn write_table<W: Write>(
 {
     let tally = tally_of(alloc, roster, &records.executions, findings)?;
     let refused = records.refused.len() as u64;
-    match print_tally(alloc, roster, &tally, refused, form, answers) {
+    match print_tally(alloc, &tally, refused, form, answers) {
         Ok(()) => Ok(()),
         Err(fault) => Err(TradesFault::Show(fault)),
     }
@@ -58,9 +57,8 @@ pub fn write_table<W: Write>(
 
 /// Writes a tally.
 #[tactic(auto, using(nms_show::proofs::Offered::no_part_added))]
-fn print_tally<W: Write>(
+pub(crate) fn print_tally<W: Write>(
     alloc: Global,
-    roster: &Roster,
     tally: &Tally,
     refused: u64,
     form: Form,
@@ -69,7 +67,7 @@ fn print_tally<W: Write>(
     ensures { Writes IsSafe (W.contents answers.old) (W.contents answers.new) result }
 {
     let mut out = SafeText::new(alloc, form);
-    write_tally(roster, tally, refused, &mut out)?;
+    write_tally(tally, refused, &mut out)?;
     out.pass_on(answers)
 }
 
@@ -106,7 +104,7 @@ pub(crate) fn tally_of(
     ensures through { IfOk result (λ tally. tally.all.through.executions ≡ length (filter (stands is_through) findings.now)) }
     ensures refused { IfErr result (IsWritingFault layout.Table) }
 {
-    let Ok(mut tally) = Tally::none(alloc, roster.parts() + 1, roster.syms()) else {
+    let Ok(mut tally) = Tally::none(alloc, roster) else {
         return Err(TradesFault::Show(ShowFault::NoMemory));
     };
     let mut place = 0;
@@ -138,28 +136,23 @@ fn count_one(tally: &mut Tally, execution: &Execution, answer: &Option<Finding>)
 }
 
 /// Writes a tally.
-fn write_tally(
-    roster: &Roster,
-    tally: &Tally,
-    refused: u64,
-    out: &mut SafeText,
-) -> Result<(), AllocError> {
+fn write_tally(tally: &Tally, refused: u64, out: &mut SafeText) -> Result<(), AllocError> {
     let aside = Aside {
         refused,
         others: tally.others,
     };
     write_all(&tally.all, aside, out)?;
     write_causes(tally, out)?;
-    write_places(roster, &tally.places, out)
+    write_places(&tally.names, &tally.places, out)
 }
 
 /// Writes the counts by participant, by symbol and by half hour.
-fn write_places(roster: &Roster, places: &Places, out: &mut SafeText) -> Result<(), AllocError> {
+fn write_places(names: &Names, places: &Places, out: &mut SafeText) -> Result<(), AllocError> {
     write_head(About::Through, "executed by", out)?;
-    write_parts(About::Through, roster, "executed", &places.executed, out)?;
+    write_parts(About::Through, names, "executed", &places.executed, out)?;
     write_head(About::Through, "traded through", out)?;
-    write_parts(About::Through, roster, "passed", &places.passed, out)?;
-    write_symbols(About::Through, roster, &places.syms, out)?;
+    write_parts(About::Through, names, "passed", &places.passed, out)?;
+    write_symbols(About::Through, names, &places.syms, out)?;
     write_half_hours(About::Through, &places.half_hours, out)
 }
 
@@ -444,7 +437,7 @@ pub(crate) fn write_row(
 /// Writes the counts of participants. The one after the last is for executions off an exchange.
 pub(crate) fn write_parts(
     about: About,
-    roster: &Roster,
+    names: &Names,
     what: &str,
     counts: &[Count],
     out: &mut SafeText,
@@ -452,29 +445,26 @@ pub(crate) fn write_parts(
     requires { is_plain what.now ≡ true }
 {
     for place in 0..counts.len() {
-        let name = part_item(roster, place);
+        let name = part_item(names, place);
         write_count(about, what, name, &counts[place], out)?;
     }
     Ok(())
 }
 
 /// The name of the participant at a place; `(none)` for the place after the last.
-fn part_item(roster: &Roster, place: usize) -> Item<'_>
+fn part_item(names: &Names, place: usize) -> Item<'_>
     ensures { is_own_plain result ≡ true }
 {
-    if place >= roster.parts() {
-        return Item::Text("(none)");
-    }
-    match Part::new(place as u8) {
-        Some(part) => Item::Bytes(name_of_part(roster, part).as_bytes()),
-        None => Item::Absent,
+    match names.parts.get(place) {
+        Some(name) => Item::Bytes(name.as_bytes()),
+        None => Item::Text("(none)"),
     }
 }
 
 /// Writes the counts of symbols. A table has the 50 with the most shares, and objects are written for all.
 pub(crate) fn write_symbols(
     about: About,
-    roster: &Roster,
+    names: &Names,
     counts: &[Count],
     out: &mut SafeText,
 ) -> Result<(), AllocError> {
@@ -488,13 +478,13 @@ pub(crate) fn write_symbols(
     } else {
         MOST_SYMBOLS_SHOWN
     };
-    write_shown(about, roster, counts, &order[..shown.min(order.len())], out)
+    write_shown(about, names, counts, &order[..shown.min(order.len())], out)
 }
 
 /// Writes the counts of symbols, in an order of their places.
 fn write_shown(
     about: About,
-    roster: &Roster,
+    names: &Names,
     counts: &[Count],
     order: &[usize],
     out: &mut SafeText,
@@ -502,13 +492,7 @@ fn write_shown(
     for at in 0..order.len() {
         let place = order[at];
         if place < counts.len() {
-            write_count(
-                about,
-                "symbol",
-                sym_item(roster, place),
-                &counts[place],
-                out,
-            )?;
+            write_count(about, "symbol", sym_item(names, place), &counts[place], out)?;
         }
     }
     Ok(())
@@ -572,14 +556,11 @@ fn places_of(alloc: Global, counts: &[Count]) -> Result<Vec<usize>, AllocError> 
 }
 
 /// The name of the symbol at a place.
-fn sym_item(roster: &Roster, place: usize) -> Item<'_>
+fn sym_item(names: &Names, place: usize) -> Item<'_>
     ensures { own_text result ≡ [] }
 {
-    let Ok(place) = u16::try_from(place) else {
-        return Item::Absent;
-    };
-    match Sym::new(place) {
-        Some(sym) => Item::Bytes(name_of_sym(roster, sym).as_bytes()),
+    match names.syms.get(place) {
+        Some(name) => Item::Bytes(name.as_bytes()),
         None => Item::Absent,
     }
 }

@@ -1,6 +1,6 @@
 //! How many executions traded through, how much, and how well they were done. The counts are of all, by cause, by participant,
 //! by symbol, by size and by half hour.
-ghost use Rattle.std.specs.Prelude.{◌≡◌, ◌<◌, ◌+◌, IfOk, IfSome, OnSome};
+ghost use Rattle.std.specs.Prelude.{◌≡◌, ◌<◌, ◌+◌, IfOk, IfSome, OnOk, OnSome};
 ghost use Rattle.nms_trades.specs.Counts.{is_judged, is_noquote, is_other, is_perhaps, is_through, stands_once};
 
 use crate::cause::{CAUSES, Cause};
@@ -8,7 +8,11 @@ use crate::execution::Execution;
 use crate::finding::Finding;
 use crate::money_through::{Sums, sums_of, sums_of_row};
 use crate::standing::Standing;
+use crate::trades_fault::TradesFault;
 use crate::worth::{SIZES, Worth, size_class};
+use nms_lines::{name_of_part, name_of_sym};
+use nms_quote::{Part, Roster, Sym};
+use nms_show::ShowFault;
 use nms_times::TimeOfDay;
 use std::alloc::{AllocError, Global};
 
@@ -72,6 +76,20 @@ impl Amount {
         amount.dollars = amount.dollars.checked_add(sums.dollars)?;
         amount.worst = amount.worst.max(sums.worst);
         Some(amount)
+    }
+
+    /// The amount together with that of other executions.
+    fn plus(self, more: &Amount) -> Option<Amount>
+        ensures { IfSome result (λ amount. amount.executions ≡ self.executions + more.now.executions) }
+    {
+        Some(Amount {
+            executions: self.executions.checked_add(more.executions)?,
+            open: self.open.checked_add(more.open)?,
+            rows: self.rows.checked_add(more.rows)?,
+            shares: self.shares.checked_add(more.shares)?,
+            dollars: self.dollars.checked_add(more.dollars)?,
+            worst: self.worst.max(more.worst),
+        })
     }
 }
 
@@ -144,6 +162,22 @@ impl Count {
         Some(count)
     }
 
+    /// The count together with that of other executions.
+    fn plus(self, more: &Count) -> Option<Count>
+        ensures executions { IfSome result (λ count. count.executions ≡ self.executions + more.now.executions) }
+        ensures unquoted { IfSome result (λ count. count.unquoted ≡ self.unquoted + more.now.unquoted) }
+        ensures perhaps { IfSome result (λ count. count.perhaps.executions ≡ self.perhaps.executions + more.now.perhaps.executions) }
+        ensures through { IfSome result (λ count. count.through.executions ≡ self.through.executions + more.now.through.executions) }
+    {
+        Some(Count {
+            executions: self.executions.checked_add(more.executions)?,
+            unquoted: self.unquoted.checked_add(more.unquoted)?,
+            perhaps: self.perhaps.plus(&more.perhaps)?,
+            through: self.through.plus(&more.through)?,
+            worth: self.worth.with(&more.worth)?,
+        })
+    }
+
     /// The count with rows of an execution with this standing.
     fn with_rows(self, standing: Standing, sums: &Sums) -> Option<Count> {
         let mut count = self;
@@ -162,7 +196,17 @@ pub(crate) struct Tally {
     /// The number of those that other shards judge. They are in no other count.
     pub(crate) others: u64,
     pub(crate) all: Count,
+    pub(crate) names: Names,
     pub(crate) places: Places,
+}
+
+/// The names under which counts are shown.
+#[derive(Drop)]
+pub(crate) struct Names {
+    /// The names of the participants.
+    pub(crate) parts: Vec<String>,
+    /// The names of the symbols.
+    pub(crate) syms: Vec<String>,
 }
 
 /// The same counts by what executions have in common.
@@ -183,8 +227,8 @@ pub(crate) struct Places {
 }
 
 impl Tally {
-    /// Empty counts for a number of participants and symbols.
-    pub(crate) fn none(alloc: Global, parts: usize, syms: usize) -> Result<Tally, AllocError>
+    /// Empty counts for the participants and symbols of a roster.
+    pub(crate) fn none(alloc: Global, roster: &Roster) -> Result<Tally, AllocError>
         ensures others { IfOk result (λ tally. tally.others ≡ 0) }
         ensures executions { IfOk result (λ tally. tally.all.executions ≡ 0) }
         ensures unquoted { IfOk result (λ tally. tally.all.unquoted ≡ 0) }
@@ -194,8 +238,53 @@ impl Tally {
         Ok(Tally {
             others: 0,
             all: Count::none(),
-            places: Places::none(alloc, parts, syms)?,
+            names: Names::of(alloc, roster)?,
+            places: Places::none(alloc, roster.parts() + 1, roster.syms())?,
         })
+    }
+
+    /// Empty counts, to which those of rosters are added that have the same participants.
+    pub(crate) fn empty(alloc: Global) -> Tally
+        ensures executions { result.all.executions ≡ 0 }
+        ensures unquoted { result.all.unquoted ≡ 0 }
+        ensures perhaps { result.all.perhaps.executions ≡ 0 }
+        ensures through { result.all.through.executions ≡ 0 }
+    {
+        Tally {
+            others: 0,
+            all: Count::none(),
+            names: Names {
+                parts: Vec::new(alloc),
+                syms: Vec::new(alloc),
+            },
+            places: Places {
+                causes: [Count::none(); CAUSES],
+                executed: Vec::new(alloc),
+                passed: Vec::new(alloc),
+                syms: Vec::new(alloc),
+                sizes: [Count::none(); SIZES],
+                half_hours: [Count::none(); HALF_HOURS],
+            },
+        }
+    }
+
+    /// Adds the counts of other executions, under the same participants. `TooLong` comes only if no number holds a sum.
+    pub(crate) fn add_tally(&mut self, more: &Tally) -> Result<(), TradesFault>
+        ensures executions { OnOk result (self.new.all.executions ≡ self.old.all.executions + more.now.all.executions) }
+        ensures unquoted { OnOk result (self.new.all.unquoted ≡ self.old.all.unquoted + more.now.all.unquoted) }
+        ensures perhaps { OnOk result (self.new.all.perhaps.executions
+            ≡ self.old.all.perhaps.executions + more.now.all.perhaps.executions) }
+        ensures through { OnOk result (self.new.all.through.executions
+            ≡ self.old.all.through.executions + more.now.all.through.executions) }
+    {
+        let Some(all) = self.all.plus(&more.all) else {
+            return Err(TradesFault::TooLong);
+        };
+        self.all = all;
+        match self.names.add_names(&more.names) {
+            Ok(own) => self.places.add_places(&more.places, &own),
+            Err(_) => Err(TradesFault::Show(ShowFault::NoMemory)),
+        }
     }
 
     /// Counts one more execution. `None` comes only if no number holds a sum.
@@ -241,6 +330,57 @@ impl Tally {
     }
 }
 
+impl Names {
+    /// The names of a roster.
+    fn of(alloc: Global, roster: &Roster) -> Result<Names, AllocError> {
+        let mut parts = Vec::with_capacity(alloc, roster.parts())?;
+        for place in 0..roster.parts() as u8 {
+            let part = Part::new(place).unwrap();
+            parts.push(String::from_str(alloc, name_of_part(roster, part))?)?;
+        }
+        let mut syms = Vec::with_capacity(alloc, roster.syms())?;
+        for place in 0..roster.syms() as u16 {
+            let sym = Sym::new(place).unwrap();
+            syms.push(String::from_str(alloc, name_of_sym(roster, sym))?)?;
+        }
+        Ok(Names { parts, syms })
+    }
+
+    /// Whether there is no participant yet, or these are the participants of others, in the same order.
+    pub(crate) fn has_parts(&self, others: &Names) -> bool {
+        self.parts.is_empty()
+            || self.parts.len() == others.parts.len()
+                && (0..self.parts.len()).all(|place| self.parts[place].as_str()
+                    == others.parts[place].as_str())
+    }
+
+    /// Adds the names of symbols that are not there, and those of the participants if there are none. Returns the places of the
+    /// others' symbols.
+    fn add_names(&mut self, others: &Names) -> Result<Vec<usize>, AllocError> {
+        let alloc = *self.syms.allocator();
+        for place in self.parts.len()..others.parts.len() {
+            self.parts
+                .push(String::from_str(alloc, others.parts[place].as_str())?)?;
+        }
+        let mut places = Vec::with_capacity(alloc, others.syms.len())?;
+        for name in &others.syms {
+            places.push(self.place_of(alloc, name.as_str())?)?;
+        }
+        Ok(places)
+    }
+
+    /// The place of a symbol, which is added if it is not there.
+    fn place_of(&mut self, alloc: Global, name: &str) -> Result<usize, AllocError> {
+        match self.syms.iter().position(|it| it.as_str() == name) {
+            Some(place) => Ok(place),
+            None => {
+                self.syms.push(String::from_str(alloc, name)?)?;
+                Ok(self.syms.len() - 1)
+            }
+        }
+    }
+}
+
 impl Places {
     /// Empty counts for a number of participants and symbols.
     fn none(alloc: Global, parts: usize, syms: usize) -> Result<Places, AllocError> {
@@ -252,6 +392,23 @@ impl Places {
             sizes: [Count::none(); SIZES],
             half_hours: [Count::none(); HALF_HOURS],
         })
+    }
+
+    /// Adds the counts of other executions, whose symbols have these places here.
+    fn add_places(&mut self, more: &Places, syms: &[usize]) -> Result<(), TradesFault> {
+        add_counts(&mut self.causes, &more.causes)?;
+        add_counts(&mut self.sizes, &more.sizes)?;
+        add_counts(&mut self.half_hours, &more.half_hours)?;
+        for place in 0..more.executed.len() {
+            add_at(&mut self.executed, place, &more.executed[place])?;
+        }
+        for place in 0..more.passed.len() {
+            add_at(&mut self.passed, place, &more.passed[place])?;
+        }
+        for place in 0..more.syms.len().min(syms.len()) {
+            add_at(&mut self.syms, syms[place], &more.syms[place])?;
+        }
+        Ok(())
     }
 
     /// Counts an execution for its participant, its symbol, its size, its causes, and those that it traded through.
@@ -313,6 +470,36 @@ fn add_to(counts: &mut [Count], place: usize, finding: &Finding, one: &One) -> O
         *count = count.with(finding, one)?;
     }
     Some(())
+}
+
+/// Adds counts to those at the same places.
+fn add_counts(counts: &mut [Count], more: &[Count]) -> Result<(), TradesFault> {
+    for place in 0..counts.len().min(more.len()) {
+        match counts[place].plus(&more[place]) {
+            Some(both) => counts[place] = both,
+            None => return Err(TradesFault::TooLong),
+        }
+    }
+    Ok(())
+}
+
+/// Adds a count to the one at a place, which may be after the last.
+fn add_at(counts: &mut Vec<Count>, place: usize, more: &Count) -> Result<(), TradesFault> {
+    for _ in counts.len()..=place {
+        if counts.push(Count::none()).is_err() {
+            return Err(TradesFault::Show(ShowFault::NoMemory));
+        }
+    }
+    match counts.get_mut(place) {
+        Some(count) => match count.plus(more) {
+            Some(both) => {
+                *count = both;
+                Ok(())
+            }
+            None => Err(TradesFault::TooLong),
+        },
+        None => Err(TradesFault::TooLong),
+    }
 }
 
 /// A list of empty counts.

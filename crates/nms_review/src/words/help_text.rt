@@ -8,7 +8,7 @@ pub(crate) const ABOUT: &str =
 
 /// The end of the help.
 pub(crate) const AFTER_HELP: &str = "Each subcommand also takes:
-      --setup <FILE>  The file of the setup, in place of the built-in one (but for when)
+      --setup <FILE>  The file of the setup, in place of the built-in one (but for when and day)
       --json          Prints one JSON object a line (but for tape, opening, draw and import)
 
 Exit statuses:

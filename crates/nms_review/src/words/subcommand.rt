@@ -25,6 +25,8 @@ pub(crate) enum Sub {
     When,
     /// Judges a file of executions. Its own arguments are `CHANGES` and `EXECUTIONS`.
     Trades,
+    /// Judges a file of executions on the shards of a day. Its own arguments are one or more of `FOLDER`.
+    Day,
     /// Compares a vendor's national bests with those of a file of changes. Its own arguments are `CHANGES` and `NBBO`.
     Compare,
 }
@@ -363,6 +365,12 @@ static WHEN: [Word; 7] = [
     JSON,
 ];
 
+const BEFORE: Word = Word {
+    name: "before",
+    help: "Judges an execution with a time on the version before it, without the changes of that time",
+    form: WordForm::Flag,
+};
+
 static TRADES: [Word; 13] = [
     CHANGES,
     Word {
@@ -396,14 +404,35 @@ static TRADES: [Word; 13] = [
         help: "Judges each execution on all versions within NS nanoseconds of its time, with --times",
         form: WordForm::Valued("NS"),
     },
-    Word {
-        name: "before",
-        help: "Judges an execution with a time on the version before it, without the changes of that time",
-        form: WordForm::Flag,
-    },
+    BEFORE,
     TIMES,
     SYMBOLS,
     SETUP,
+    JSON,
+];
+
+static DAY: [Word; 6] = [
+    Word {
+        name: "FOLDER",
+        help: "The folders of the shards, or of folders with them",
+        form: WordForm::Several,
+    },
+    Word {
+        name: "trades",
+        help: "The file of the executions, each with its time",
+        form: WordForm::NeededValue("EXECUTIONS"),
+    },
+    Word {
+        name: "out",
+        help: "Writes NAME.findings.csv, a line of columns for each record, by time",
+        form: WordForm::NeededValue("NAME"),
+    },
+    Word {
+        name: "window",
+        help: "Judges each execution on all versions within NS nanoseconds of its time",
+        form: WordForm::Valued("NS"),
+    },
+    BEFORE,
     JSON,
 ];
 
@@ -435,7 +464,7 @@ static COMPARE: [Word; 7] = [
 
 impl Sub {
     /// All subcommands.
-    pub(crate) const ALL: [Sub; 12] = [
+    pub(crate) const ALL: [Sub; 13] = [
         Sub::Explain,
         Sub::Tape,
         Sub::At,
@@ -447,6 +476,7 @@ impl Sub {
         Sub::Import,
         Sub::When,
         Sub::Trades,
+        Sub::Day,
         Sub::Compare,
     ];
 
@@ -464,6 +494,7 @@ impl Sub {
             Sub::Import => "import",
             Sub::When => "when",
             Sub::Trades => "trades",
+            Sub::Day => "day",
             Sub::Compare => "compare",
         }
     }
@@ -485,6 +516,8 @@ impl Sub {
             Sub::Import => "Makes a file of changes of a vendor's files, by a mapping",
             Sub::When => "Finds versions by time, or the time of a version",
             Sub::Trades => "Says which executions traded through a protected quotation, and whose",
+            Sub::Day =>
+                "Says the same of a day that is cut into shards: a table, and a file of findings",
             Sub::Compare => "Compares a vendor's national bests with those of a file of changes",
         }
     }
@@ -503,6 +536,7 @@ impl Sub {
             Sub::Import => IMPORT.as_slice(),
             Sub::When => WHEN.as_slice(),
             Sub::Trades => TRADES.as_slice(),
+            Sub::Day => DAY.as_slice(),
             Sub::Compare => COMPARE.as_slice(),
         }
     }

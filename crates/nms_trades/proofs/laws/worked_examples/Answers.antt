@@ -2,11 +2,12 @@
 use Rattle.std.proofs.Common.{refl}
 use Rattle.nms_quote.specs.Members.{has_part}
 use Rattle.nms_trades.specs.Answers.{in_order}
+use Rattle.nms_trades.specs.Day.{together}
 use Rattle.nms_trades.specs.Sums.{cost_of}
 use Rattle.nms_trades.proofs.laws.worked_examples.Goals as goal
 
 pub returns : goal.returns
-unfolding has_part in_order cost_of
+unfolding has_part in_order cost_of together
 returns c = record {
   a_state_is_no_quotation = refl;
   one_without_prices_is = refl;
@@ -16,6 +17,12 @@ returns c = record {
   it_ends_before_the_next = refl;
   without_its_own_time_it_begins_later = refl;
   and_ends_later = refl;
+  the_second_decides = λ line. refl;
+  one_judges = λ line. refl;
+  two_may_not = λ line other. refl;
+  no_one_does = refl;
+  one_refuses = refl;
+  none_has_the_symbol = refl;
   both_bids = λ execution. refl;
   many_shares = λ execution. refl;
   one_is_helped = λ execution. refl;

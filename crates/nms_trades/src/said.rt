@@ -1,0 +1,65 @@
+//! What the shards of a day say about a record of a file of executions: `specs/Day`.
+ghost use Rattle.std.specs.Prelude.{◌≡◌, false};
+ghost use Rattle.nms_trades.specs.Day.{both, is_here};
+
+use crate::trade_fault::TradeFault;
+use nms_times::TimeOfDay;
+
+/// Where the line of an execution is in the text of a day.
+#[derive(Clone, Copy)]
+pub(crate) struct Line {
+    /// The time of the execution.
+    pub(crate) time: TimeOfDay,
+    /// The place of its first byte.
+    pub(crate) from: usize,
+    /// The place after its last byte.
+    pub(crate) to: usize,
+}
+
+/// What one shard says about a record, or several shards together.
+#[derive(Clone, Copy)]
+pub(crate) enum Said {
+    /// The record is in no symbol of a shard.
+    Unknown,
+    /// The record is refused.
+    Refused(TradeFault),
+    /// Another shard judges it.
+    Elsewhere,
+    /// It is judged, and this is its line.
+    Here(Line),
+}
+
+impl Said {
+    /// What is said together with another shard. `None` if both judge the record.
+    pub(crate) fn with(self, more: Said) -> Option<Said>
+        ensures { result ≡ both self more }
+    {
+        match (self, more) {
+            (Said::Here(_), Said::Here(_)) => None,
+            (Said::Here(line), _) => Some(Said::Here(line)),
+            (Said::Unknown, said) => Some(said),
+            (said, Said::Unknown) => Some(said),
+            (Said::Elsewhere, Said::Refused(_)) => Some(Said::Elsewhere),
+            (Said::Refused(_) | Said::Elsewhere, said) => Some(said),
+        }
+    }
+
+    /// What a shard says about a record that it refuses.
+    pub(crate) fn of_refusal(fault: TradeFault) -> Said
+        ensures { is_here result ≡ false }
+    {
+        match fault {
+            TradeFault::UnknownSymbol => Said::Unknown,
+            _ => Said::Refused(fault),
+        }
+    }
+
+    /// Why the record is refused, if it is.
+    pub(crate) fn refusal(self) -> Option<TradeFault> {
+        match self {
+            Said::Unknown => Some(TradeFault::UnknownSymbol),
+            Said::Refused(fault) => Some(fault),
+            Said::Elsewhere | Said::Here(_) => None,
+        }
+    }
+}
