@@ -24,6 +24,7 @@ TOP = os.path.dirname(os.path.dirname(os.path.realpath(__file__)))
 sys.dont_write_bytecode = True
 sys.path.insert(0, f"{TOP}/tests")
 import replay
+import survive
 
 LETTERS = replay.LETTERS
 # Changes a second of each feed, and requests a second of each client, on average; a burst is sent at once.
@@ -108,7 +109,7 @@ class Dying(threading.Thread):
         chance = self.day.chance
         while time.monotonic() < self.until:
             if chance.random() < 0.5:
-                replay.renew(self.paths)
+                survive.renew(self.paths)
             ends = [os.open(self.paths[0], os.O_WRONLY), os.open(self.paths[1], os.O_RDONLY)]
             text = b"".join(self.day.draw_requests(chance.choice([1, 2, 7, 40])))
             os.write(ends[0], text[: chance.randrange(1, len(text) + 1)])
@@ -203,7 +204,7 @@ def main(words):
         replay.check(f"the record has the requests and the answers of client {number}", good)
     replay.check("the status", started.returncode == 6, started.returncode)
     replay.replay("the run", tool, setup, tape, [*streams, accepted(*found[16])])
-    replay.has_times("the run", tape, True)
+    survive.has_times("the run", tape, True)
     replay.check("its state says that it has ended", replay.bytes_of(f"{folder}/status").startswith(b"RUN,ENDED,"))
     replay.check("it is no longer ready", not os.path.exists(f"{folder}/ready"))
     epochs = len(replay.read_epochs(tape))

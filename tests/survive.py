@@ -978,6 +978,10 @@ def served_or_ends(it, run, status, said, late=None):
     return False
 
 
+# With so many descriptors a run with two feeds, a client and all its files always serves.
+ENOUGH = 16
+
+
 def few_descriptors(program, tool):
     """With fewer and fewer descriptors a run serves, or ends by a fault that says so."""
     for keep in ((), ("--keep",)):
@@ -990,7 +994,8 @@ def few_descriptors(program, tool):
                 run = Served(it, *more, ways=keep, preexec_fn=lambda: resource.setrlimit(resource.RLIMIT_NOFILE, (most, most)))
                 if served_or_ends(it, run, 1, rf"E1: .*: Too many open files \(os error 24\)|{late}", late):
                     served.add(most)
-        check(f"a run serves with enough descriptors {keep}", served and served == set(range(min(served), 20)), served)
+        # With a few less it may serve too, if it never needs all of them at once.
+        check(f"a run serves with enough descriptors {keep}", served >= set(range(ENOUGH, 20)), served)
 
 
 def none_left(program, tool):
