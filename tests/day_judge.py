@@ -179,8 +179,8 @@ def jobs_that_die(program):
 
 
 def made_trades(room, dice, each=30):
-    """Trades in the symbols of a made day: so many in each at the times of quotes and near them, and some at the cuts of one of its folders
-    and before the first quote of all. Returns their file, how many they are, and the names of those in the second after a cut."""
+    """Trades in the symbols of a made day: in each symbol `each` of them at the times of quotes and near them, and some at the cuts of
+    one of its folders and before the first quote of all. Returns their file, how many they are, and the names of those in the second after a cut."""
     quotes, trades, near = {}, [], set()
 
     def seconds(time):

@@ -978,7 +978,7 @@ def served_or_ends(it, run, status, said, late=None):
     return False
 
 
-# With so many descriptors a run with two feeds, a client and all its files always serves.
+# A run with two feeds, a client and all its files always serves with 16 descriptors or more: SERVING.md counts 15, and 1 at its end.
 ENOUGH = 16
 
 
