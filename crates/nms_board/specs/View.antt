@@ -1,5 +1,5 @@
 -- What a look at one symbol shows.
-use Rattle.std.specs.Prelude.{ℕ, ◌≢◌, ◌==◌, ◌<◌, All, AllPairs, List, length, map, Option}
+use Rattle.std.specs.Prelude.{ℕ, ◌≢◌, ◌==◌, ◌<◌, All, AllPairs, List, [], length, map, Option}
 use Rattle.std.specs.List.{find}
 use Rattle.std.specs.List.Sorted.{IsStrictlyIncreasing}
 use Rattle.nms_quote.specs.Roster.{Sizes}
@@ -16,6 +16,10 @@ pub record Seen : Type 0 where
   pub sym : ℕ
   pub bids : List Row
   pub offers : List Row
+
+-- a version shows nothing of a symbol
+abbrev pub seen_nothing : (version sym : ℕ) → Seen
+seen_nothing version sym = record { version = version; sym = sym; bids = []; offers = [] }
 
 abbrev pub rows_on : Side → Seen → List Row
 rows_on side seen = on_side side seen.bids seen.offers

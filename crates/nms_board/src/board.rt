@@ -84,7 +84,7 @@ impl Model for Boards {
 impl Boards {
     ghost use Rattle.nms_board.specs.Cells.{Board, IsBoard, StandsFor, after, opening, takes};
     ghost use Rattle.nms_board.specs.Shown.{row_held, rows_held, seen_on};
-    ghost use Rattle.nms_board.specs.View.{AreRows, rows_on, view_of};
+    ghost use Rattle.nms_board.specs.View.{AreRows, rows_on, seen_nothing, view_of};
 
     /// The board of a roster with nothing on it. Every cell of every symbol is made here.
     pub fn new(alloc: Global, roster: &Roster) -> Result<Self, BoardFault>
@@ -363,11 +363,29 @@ impl Boards {
         ensures parts { (side : Side) → All (λ row. row.part < self.now.sizes.parts) (rows_on side result) }
     {
         let mut view = View::of_nothing(self.applied, sym);
+        self.fill(sym, &mut view);
+        view
+    }
+
+    /// Writes the quotations of one symbol over what a view shows, as `view` gives them.
+    pub fn view_into(&self, sym: Sym, view: &mut View)
+        ensures { view.new ≡ seen_on self.now sym }
+    {
+        view.clear(self.applied, sym);
+        self.fill(sym, view);
+    }
+
+    /// Fills the empty view of a symbol.
+    fn fill(&self, sym: Sym, view: &mut View)
+        requires { view.old ≡ seen_nothing self.now.applied sym }
+        ensures { view.new ≡ seen_on self.now sym }
+    {
+        // A field is read so that the prover sees the invariant.
+        let _applied = self.applied;
         if let Some(lot) = self.lot_of(sym) {
             view.orders = self.orders_of(sym).copied();
             self.show(sym, lot, &mut view.bids, &mut view.offers);
         }
-        view
     }
 
     /// The rank orders of a symbol of the roster, which a view carries.

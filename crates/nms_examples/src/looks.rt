@@ -136,13 +136,17 @@ fn look_beside<R: Threads + Wait + Clock + Sync>(
 
 /// Makes n looks, at one symbol after another and a row of each side.
 fn look_often(seat: &mut Seat, looks: u32) {
+    let Some(first) = Sym::new(0) else {
+        return;
+    };
+    let mut view = View::of_nothing(0, first);
     for look in 0..looks {
         let Some(sym) = Sym::new((u64::from(look) % SYMBOLS) as u16) else {
             return;
         };
-        let Ok(view) = seat.desk.look(sym) else {
+        if seat.desk.look_into(sym, &mut view).is_err() {
             return;
-        };
+        }
         let place = u64::from(look) % PARTICIPANTS;
         for side in [Side::Bid, Side::Offer] {
             seat.rows = seat.rows.wrapping_add(rows_at(&view, side, place));

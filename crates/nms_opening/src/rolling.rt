@@ -84,10 +84,12 @@ impl RollingBoard {
                 }
             }
             Some(carried) => {
+                // A copy is lent, so that the compiler keeps a usual change in registers.
+                let lent = change;
                 self.carried = carry_on(
                     &mut self.board,
                     &mut self.next,
-                    change,
+                    lent,
                     carried,
                     &mut self.before,
                 );

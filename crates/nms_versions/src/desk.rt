@@ -3,7 +3,7 @@ ghost use Rattle.std.specs.Prelude.{◌≡◌, ◌<◌, ◌∷◌, ◌↔◌, le
 ghost use Rattle.std.specs.List.{AllByRecursion, Contains};
 ghost use Rattle.nms_quote.specs.Tape.{Tape};
 ghost use Rattle.nms_board.specs.Cells.{Board};
-ghost use Rattle.nms_board.specs.View.{view_of};
+ghost use Rattle.nms_board.specs.View.{seen_nothing, view_of};
 ghost use Rattle.nms_versions.specs.Published.{changes, publications};
 ghost use Rattle.nms_versions.specs.Taped.{AllBegin, IsShown, longest_of};
 ghost use Rattle.nms_versions.specs.declared.settled.Unsettled.TheVariants as unsettled;
@@ -11,7 +11,7 @@ ghost use Rattle.nms_versions.specs.declared.settled.Unsettled.TheVariants as un
 use crate::history::Token;
 use crate::memory::Memory;
 use crate::no_reading::NoReading;
-use crate::onlooker::{Onlooker, Viewer};
+use crate::onlooker::Onlooker;
 use crate::receipt::Receipt;
 use crate::rule::{PairReader, Reading};
 use crate::settled::{Settled, Unsettled};
@@ -80,7 +80,23 @@ impl Desk {
             × AllBegin version self.old.known × (self.new ≡ record self.old { known = version ∷ self.old.known })) }
         ensures unchanged { OnErr result (self.new ≡ self.old) }
     {
-        self.look_with(&mut Viewer { sym })
+        let mut view = View::of_nothing(0, sym);
+        match self.look_into(sym, &mut view) {
+            Ok(()) => Ok(view),
+            Err(none) => Err(none),
+        }
+    }
+
+    /// Writes over a view what the published version shows for a symbol, as `look` gives it. So a desk that looks often copies no
+    /// view. `NoReading` leaves the desk as it was, and the view shows nothing.
+    pub fn look_into(&mut self, sym: Sym, view: &mut View) -> Result<(), NoReading>
+        ensures shown { OnOk result ((version : Tape) × (view.new ≡ view_of self.old.sizes version sym)
+            × AllBegin version self.old.known × (self.new ≡ record self.old { known = version ∷ self.old.known })) }
+        ensures unchanged { OnErr result (self.new ≡ self.old) }
+        ensures unseen { OnErr result (view.new ≡ seen_nothing 0 sym) }
+    {
+        view.clear(0, sym);
+        self.look_with(view)
     }
 
     /// Shows the published board to an onlooker. It waits for no thread and takes no memory, unless the onlooker does.

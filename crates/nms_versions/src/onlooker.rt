@@ -3,7 +3,6 @@ ghost use Rattle.std.specs.Prelude.{◌≡◌};
 ghost use Rattle.nms_board.specs.Cells.{Board};
 
 use nms_board::{Boards, View};
-use nms_quote::Sym;
 
 /// One who is shown the published board in a look, and takes from it what it wants.
 pub trait Onlooker {
@@ -18,21 +17,16 @@ pub trait Onlooker {
         ensures { Sees self.old board.now self.new result };
 }
 
-/// One who wants all that the board shows for a symbol.
-#[derive(Clone, Copy)]
-pub(crate) struct Viewer {
-    pub(crate) sym: Sym,
-}
-
-impl Onlooker for Viewer {
+/// A view is shown all that the board shows for its symbol.
+impl Onlooker for View {
     ghost use Rattle.std.specs.Prelude.{◌≡◌};
     ghost use Rattle.nms_board.specs.Shown.{seen_on};
 
-    type Sight = View;
+    type Sight = ();
 
-    ghost Sees = { λ before board after view. view ≡ seen_on board before.sym };
+    ghost Sees = { λ before board after sight. after ≡ seen_on board before.sym };
 
-    fn see(&mut self, board: &Boards) -> View {
-        board.view(self.sym)
+    fn see(&mut self, board: &Boards) {
+        board.view_into(self.sym(), self);
     }
 }
