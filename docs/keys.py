@@ -14,7 +14,7 @@ TOP = os.path.dirname(os.path.dirname(os.path.realpath(__file__)))
 PAGE, SOURCE = "docs/IMPORT.md", "crates/nms_import/src/keys.rt"
 MADE = re.compile(r"(<!-- made: keys -->\n).*?(<!-- end -->)", re.S)
 TEXT = r'"((?:[^"\\]|\\.)*)"'
-KINDS = ("quotes", "trades", "bests")
+KINDS = ("quotes", "sides", "trades", "bests")
 
 
 def read(file):
@@ -40,7 +40,7 @@ def rules(source):
             said = texts["ONE_OR_TWO"] if form == "Columns" else "a column"
         said_words = [told(it) for it in re.findall(TEXT, lists.get(words, words))]
         other = said_words and form == "Column"
-        absent = f"refused, unless `{said_words[0]}` is there" if other else "refused" if needed == "true" else ""
+        absent = f"`{said_words[0]}` has to be there" if other else "refused" if needed == "true" else ""
         if not absent and said_words and form not in ("Instead", "ZoneName"):
             absent = f"`{said_words[0]}`"
         found[name] = (said, absent)

@@ -10,7 +10,7 @@ page a line of four spaces and `./nms_review WORDS` is a call, or one of `./nms_
 after it is what it writes, with the words `status N` in the text between them if N is not 0. Besides these the program
 meets a closed output, one whose reader has gone, records of a million bytes, records whose fields and lists are longer than
 any that is right, byte order marks before quotes, each byte of a file once, a setup of many symbols, streams of several
-pieces, a symbol that is cut to four shards, what is written beside a shard, lines of all ends, a trade after a refused row, a
+pieces, a symbol that is cut to four shards, rows of one side, what is written beside a shard, lines of all ends, a trade after a refused row, a
 terminal and users who want no colours, imports to one name that fail or have fewer shards, an output that is standard output's own file, a script of one record too many,
 the imports of examples/import/, and the random files and pages that the judges JUDGES compare with a plain slow program.
 """
@@ -31,7 +31,7 @@ from trials import Trial, Wrong, compare, run
 ROOM = os.path.join(EXAMPLES, "review")
 # The pages whose calls run, the mappings of examples/import/, and the programs that judge random files.
 PAGES = ("docs/REVIEW.md", "docs/TRADES.md")
-IMPORTS = ("taq", "taq-shares", "databento-mbp1", "databento-client", "lobster", "plain", "taq-trades", "databento-tbbo", "lobster-trades", "plain-trades")
+IMPORTS = ("taq", "taq-shares", "databento-mbp1", "databento-client", "lobster", "plain", "plain-sides", "taq-trades", "databento-tbbo", "lobster-trades", "plain-trades")
 # The page whose calls are followed one after another.
 FOLLOWED = "docs/MINUTES.md"
 CLOSED = ("2>&-", "1>&-", "1>&- 2>&-", "0<&-", "0<&- 1>&- 2>&-")
@@ -385,6 +385,52 @@ def import_to_out(program, room, texts, words):
     return ran, {it: read(room, it) for it in sorted(os.listdir(room)) if it.startswith("out")}
 
 
+# A mapping of rows of one side, and one of the same quotations with both sides in a row. What makes one side manual makes both so.
+STATES = b'[state]\nautomated = ["R"]\nmanual = ["M"]\nhalted = ["H"]\nhalf = "manual"\n'
+ONE_SIDE = MAP.replace(b"bid = 4\nbid_size = 5\noffer = 6\noffer_size = 7\n", b"side = 4\nprice = 5\nsize = 6\ncondition = 7\n") \
+    + b'[file]\nkind = "sides"\n[side]\nbid = ["b", "Bid"]\noffer = ["o"]\n' + STATES
+BOTH_SIDES = MAP.replace(b"offer_size = 7\n", b"offer_size = 7\ncondition = 8\n") + STATES
+
+
+def shown_after(shown, side, content, state):
+    """Both sides of a venue after a row of one: each has its content and its state. A halt is of both; after it a side is shown
+    again from its own next row on."""
+    own, other = (content, state) if content else None, shown[1 - side]
+    if other and state == "H":
+        other = (other[0], "H")
+    elif other and other[1] == "H":
+        other = None
+    return (own, other) if side == 0 else (other, own)
+
+
+def sides_are_quotes(program, path):
+    """Rows of one side give the files that the same quotations give with both sides in a row: in one file, and in shards, of which
+    some begin within a symbol."""
+    room, draw, ones, boths = os.path.dirname(path), random.Random(11), [], []
+    setup = SETUP + b'[[symbol]]\nname = "XYZ"\nlot = 100\n'
+    for symbol in ("ABC", "XYZ"):
+        shown = {"N": (None, None), "P": (None, None)}
+        for it in range(200):
+            venue, side, state = draw.choice("NP"), draw.randrange(2), draw.choice("RRRRRRMMH")
+            content = draw.choice(("", f"{9 + side}.{draw.randrange(50):02},{draw.randrange(1, 9)}00", f"{9 + side}.5,200"))
+            head = f"09{it // 60:02}{it % 60:02},{venue},{symbol}"
+            ones.append(f"{head},{draw.choice(('b', 'Bid')) if side == 0 else 'o'},{content or ','},{state}\n")
+            shown[venue] = shown_after(shown[venue], side, content, state)
+            states = {one[1] for one in shown[venue] if one} or {state}
+            both = "M" if len(states) == 2 else states.pop()
+            boths.append(f"{head},{','.join(one[0] if one else ',' for one in shown[venue])},{both}\n")
+    for words in (["given.csv"], ["given.csv", "--rows"], ["given.csv", "--shards"]):
+        came = []
+        for mapping, rows in (ONE_SIDE, ones), (BOTH_SIDES, boths):
+            ran, files = import_to_out(program, room, {"given.toml": mapping, "setup.toml": setup, "given.csv": "".join(rows).encode()}, words)
+            must(ran.returncode == 0 and ran.stdout.endswith(b"400 rows = 400 changes + 0 refused + 0 skipped\n"), f"{ran.stdout!r}, {ran.stderr[-500:]!r}")
+            came.append(files)
+        must(set(came[0]) == set(came[1]), f"{sorted(came[0])}, {sorted(came[1])}")
+        for name, text in came[1].items():
+            compare(name, came[0][name], text)
+    must("out.7.changes" in came[1], f"{sorted(came[1])}")
+
+
 def withdrawn(program, path):
     """A trade after a refused row is not judged by the quotation before that row; with `keep` it is."""
     room = os.path.dirname(path)
@@ -563,7 +609,7 @@ TRIALS = [
     ("closed", refused), ("reader_gone", refused), ("long", long_records), ("far_name", long_names), ("far_fields", long_fields),
     ("mark", marked), ("mark_in_parts", nothing), ("harmless", each_byte), ("small_memory", large), ("no_memory", larger),
     ("one_found", among), ("one_too_many", too_many), ("name_found", many_symbols), ("most_faults", other_keys), ("pieces", each_other), ("cut_often", nothing),
-    ("withdrawn", nothing), ("lots_of_the_setup", nothing), ("out_of_one_import", nothing), ("rows_of_one_import", nothing), ("own_output", nothing), ("inputs_named_as_shards", nothing),
+    ("sides_are_quotes", nothing), ("withdrawn", nothing), ("lots_of_the_setup", nothing), ("out_of_one_import", nothing), ("rows_of_one_import", nothing), ("own_output", nothing), ("inputs_named_as_shards", nothing),
     ("shard_of", nothing), ("editor_lines", nothing), ("colours", unknown_kind),
 ]
 

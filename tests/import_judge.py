@@ -4,7 +4,8 @@
     tests/import_judge.py PROGRAM [ROWS [SEED]]
 
 ROWS is 100,000 if it is not given, shared by the layouts of LAYOUTS: those of examples/import/, and some of them with another
-form of times or another word for rows of which one side alone is manual; and the layouts of trades TRADES. The rows stand in
+form of times or another word for rows of which one side alone is manual; layouts of which each row has one side; and the
+layouts of trades TRADES. The rows stand in
 two files, with a share of them wrong in each way that a row can be. The files that are written, and the counts, must be those
 of the converter: also with --rows, with --refused, with --add-symbols, and with --shards for rows by symbol, some of which come
 too late. Prints the seed, and at a difference the layout and the line. Ends with status 1 at a difference.
@@ -17,7 +18,7 @@ import subprocess
 import sys
 import tempfile
 import tomllib
-from dataclasses import dataclass, field
+from dataclasses import dataclass, field, replace
 from datetime import date, datetime, timedelta, timezone
 from zoneinfo import ZoneInfo
 
@@ -63,6 +64,10 @@ class Layout:
     # Whether a refused row withdraws what its participant showed.
     withdraws: bool = True
     states: bool = True
+    # The state of each condition, if it has others than TAQ.
+    words: dict | None = None
+    # The words for the bid, 0, and for the offer, 1, if each row has one side.
+    sides: dict | None = None
     end: str = ""
 
 
@@ -98,6 +103,25 @@ LAYOUTS = [
     Layout("lobster", "lobster.toml", 14, ["field"] * 10, {"time": 0, "bid": 8, "bid_size": 9, "offer": 6, "offer_size": 7}, header=False, delimiter=",",
            fixed={"participant": "Q", "symbol": "AAPL"}, form="seconds", unit="1e-4", none=("", "9999999999", "-9999999999"),
            same=True, states=False),
+]
+
+
+SIDE_NAMES = "time,venue,symbol,side,price,size,state".split(",")
+
+
+def sides(name, share, half, edits=(), **more):
+    """The layout of everyday quotes whose rows have one side each. What makes only one side manual is never refused, so that a row is
+    refused for its own texts alone."""
+    edits = [('half = "refuse"', f'half = "{half}"'), ('halted = ["halt"]', 'halted = ["halt"]\nnone = ["off"]'),
+             ('[symbol]', '[symbol]\nunknown = "skip"'), *edits]
+    return Layout(name, "plain-sides.toml", share, SIDE_NAMES, {"time": 0, "participant": 1, "symbol": 2, "side": 3, "price": 4, "size": 5, "condition": 6},
+                  edits=edits, delimiter=",", form="iso", names_of={"NASDAQ": "Q", "NYSE": "N", "ARCA": "P"}, half=half,
+                  words={"": "A", "slow": "M", "halt": "H", "off": ""}, sides={"B": 0, "bid": 0, "A": 1, "ask": 1}, **more)
+
+
+LAYOUTS += [
+    sides("sides, both manual", 12, "manual"),
+    sides("sides, both automated", 8, "automated", [("quotes = true", 'quotes = true\non_refused = "keep"')], withdraws=False),
 ]
 
 
@@ -226,7 +250,7 @@ def state_of(layout, it):
         return ("A", False) if has_bits(it["flags"], 12) == "0" else "unknown condition"
     if not layout.states:
         return "A", False
-    state = STATE.get(it["source"] + it["condition"])
+    state = layout.words.get(it["condition"]) if layout.words else STATE.get(it["source"] + it["condition"])
     if state is None:
         return "unknown condition"
     if state != "half":
@@ -250,8 +274,31 @@ def withdrawal(layout, row, parts, syms, last):
     return (f"Q,{part},{sym},A,,,,", time_of(layout, it["time"]) or last, sym, False)
 
 
-def outcome(layout, row, parts, syms):
-    """(record, time, symbol, only one side is manual) of a row, or the cause why it makes none."""
+def one_side(layout, it, part, sym, state, lot, shown):
+    """The record of a row of one side, and whether only one side is manual; or the cause why it makes none. `shown` has both sides of
+    each participant and symbol, each with its state. A halt is of both; after it a side is shown again from its own next row on."""
+    side = layout.sides.get(it["side"])
+    if side is None:
+        return "unknown side"
+    own = side_of(layout, it["price"], it["size"], lot) if state else (",",)
+    if isinstance(own, str):
+        return own
+    state = state or "A"
+    other = shown.get((part, sym), (None, None))[1 - side]
+    if other and state == "H":
+        other = (other[0], "H")
+    elif other and other[1] == "H":
+        other = None
+    both = [None, None]
+    both[side], both[1 - side] = (own[0], state) if own[0] != "," else None, other
+    shown[part, sym] = tuple(both)
+    states = {it[1] for it in both if it} or {state}
+    half = len(states) == 2
+    return f"Q,{part},{sym},{layout.half[0].upper() if half else states.pop()},{','.join(it[0] if it else ',' for it in both)}", half
+
+
+def outcome(layout, row, parts, syms, shown=None):
+    """(record, time, symbol, only one side is manual) of a row, or the cause why it makes none. `shown` is what rows of one side showed."""
     if layout.end and row[0] == layout.end:
         return "last line of a file"
     if len(row) <= max(layout.columns.values()):
@@ -270,9 +317,12 @@ def outcome(layout, row, parts, syms):
     state = state_of(layout, it)
     if isinstance(state, str):
         return state
+    lot = layout.lot or LOTS.get(sym, 100)
+    if layout.sides:
+        made = one_side(layout, it, part, sym, state[0], lot, {} if shown is None else shown)
+        return made if isinstance(made, str) else (made[0], time, sym, made[1])
     if state[0] == "":
         return (f"Q,{part},{sym},A,,,,", time, sym, False)
-    lot = layout.lot or LOTS.get(sym, 100)
     bid = side_of(layout, it["bid"], it["bid_size"], lot)
     if isinstance(bid, str):
         return bid
@@ -350,11 +400,14 @@ def random_row(layout, dice, parts, syms):
         "offer": maybe(random_price(layout, dice, middle + dice.randrange(1, 500)), ["", "0", "9999999.9999", "10.00005", "10.000050", "10.0000000",
                                                                                     "1.2345000001", "nan", "NaN", "NAN", "x", *layout.none]),
         "offer_size": maybe(str(dice.choice([0, *lots])), ["", "10000000", "-1"]),
-        "condition": maybe("R", list("OWHDICLNAEFYZBU4X") + [""], 8),
+        "condition": maybe("R", list("OWHDICLNAEFYZBU4X") + [""], 8) if layout.words is None else maybe("", ["slow", "slow", "halt", "off", "R"], 4),
+        "side": maybe(dice.choice(list(layout.sides or "B")), ["", "b", "BA", "bid "]),
         "source": maybe(dice.choice("CN"), ["", "X"], 200),
         "skip": maybe("", ["A", "B", "C"], 50),
         "flags": maybe(str(128 | dice.choice([0, 2, 64, 66])), ["", "0", "127", "136", "132", "4", "-1", "1.0", "x", "0000000128", "000000128", "999999999", "65535"], 10),
     }
+    which = dice.choice(("bid", "offer"))
+    it |= {"price": it[which], "size": it[f"{which}_size"]}
     fields = [""] * len(layout.names)
     for what, place in layout.columns.items():
         fields[place] = it[what]
@@ -381,15 +434,16 @@ def files_of(layout, dice, rows, room):
 
 def wanted_of(layout, rows, parts, syms, numbers):
     """What the converter writes, by the end of the file's name."""
-    changes, times, counts, spans, halves, withdrawn, time = [], [], {}, {}, 0, 0, NO_TIME
+    changes, times, counts, spans, halves, withdrawn, time, shown = [], [], {}, {}, 0, 0, NO_TIME, {}
     for number, row in enumerate(rows, 1):
-        made_of = outcome(layout, row, parts, syms)
+        made_of = outcome(layout, row, parts, syms, shown)
         if isinstance(made_of, str):
             counts[made_of] = counts.get(made_of, 0) + 1
             made_of = None if made_of in SKIPS else withdrawal(layout, row, parts, syms, time)
             if made_of is None:
                 continue
             withdrawn += 1
+            shown.pop(tuple(made_of[0].split(",")[1:3]), None)
         record, time, sym, half = made_of
         changes.append(record)
         times.append(f"{time},{number:015}" if numbers else time)
@@ -401,8 +455,8 @@ def wanted_of(layout, rows, parts, syms, numbers):
 
 NO_TIME = "0" * 15
 SKIPS = ("last line of a file", "word to skip", "other symbol")
-CAUSES = ("too few columns", "bad time", "unknown participant", "unknown symbol", "unknown condition", "one side manual", "bad price", "bad size",
-          "shares without a price", "symbol after its end", *SKIPS)
+CAUSES = ("too few columns", "bad time", "unknown participant", "unknown symbol", "unknown condition", "one side manual", "unknown side",
+          "bad price", "bad size", "shares without a price", "symbol after its end", *SKIPS)
 
 
 def opening_of(sides, states, symbol):
@@ -420,12 +474,12 @@ def cut_of(layout, rows, parts, limit, numbers):
         return f"{time},{number:015}" if numbers else time
     def shard():
         return {"changes": [], "times": [], "symbols": [], "opened": 0}
-    shards, counts, begun, now, halves, changes, withdrawn, last = [shard()], {}, set(), None, 0, 0, 0, (NO_TIME, 0)
+    shards, counts, begun, now, halves, changes, withdrawn, last, shown = [shard()], {}, set(), None, 0, 0, 0, (NO_TIME, 0), {}
     for number, row in enumerate(rows, 1):
         place = layout.columns["symbol"]
         name = (row[place] if place < len(row) else "").replace(" ", ".")
         own = {name} if re.fullmatch("[A-Z0-9.]{1,8}", name) else set()
-        made_of, ended = outcome(layout, row, parts, own), name != now and name in begun
+        made_of, ended = outcome(layout, row, parts, own, shown), name != now and name in begun
         if not isinstance(made_of, str) and ended:
             made_of = "symbol after its end"
         refused = isinstance(made_of, str)
@@ -435,6 +489,7 @@ def cut_of(layout, rows, parts, limit, numbers):
             if made_of is None:
                 continue
             withdrawn += 1
+            shown.pop(tuple(made_of[0].split(",")[1:3]), None)
         record, time, _, half = made_of
         it = shards[-1]
         if name != now:
@@ -503,7 +558,7 @@ def judge_shards(program, layout, dice, rows, limit, symbols, numbers):
             file.write(text)
         paths, given = files_of(layout, dice, made, room)
         out = os.path.join(room, "out")
-        words = [program, "import", os.path.join(MAPS, layout.mapping), *paths, "--out", out, "--shards", "--setup", setup, *["--rows"] * numbers]
+        words = [program, "import", mapping_in(layout, room), *paths, "--out", out, "--shards", "--setup", setup, *["--rows"] * numbers]
         ran = subprocess.run(words, capture_output=True, check=False)
         shards, counts = cut_of(layout, given, parts, limit, numbers)
         if differs(f"{name}: counts", counts, ran.stdout.decode().splitlines(), ran):
@@ -577,7 +632,7 @@ def shown_in(layout, path):
 def judge_refused(program, layout, dice, rows):
     """Runs the program with --refused. Returns whether the file has every row that is refused, and standard error none."""
     parts, syms = roster()
-    is_trade = "price" in layout.columns
+    is_trade = "shares" in layout.columns
     made = [(random_trade if is_trade else random_row)(layout, dice, parts, syms) for _ in range(rows)]
     told = (lambda row: trade_outcome(layout, 1, row, parts, syms)) if is_trade else lambda row: outcome(layout, row, parts, syms)
     with tempfile.TemporaryDirectory() as room:
@@ -779,8 +834,8 @@ def read_back(program, room, records):
     return ran.stdout.decode().splitlines()
 
 
-def run_import(program, layout, paths, room, names, words=()):
-    """Runs an import by a layout's mapping with its edits. Returns the run, and the lines of what it wrote."""
+def mapping_in(layout, room):
+    """A layout's mapping with its edits, in a file of a folder."""
     with open(os.path.join(MAPS, layout.mapping), encoding="utf-8") as file:
         text = file.read()
     for old, new in layout.edits:
@@ -789,7 +844,12 @@ def run_import(program, layout, paths, room, names, words=()):
     mapping = os.path.join(room, "map.toml")
     with open(mapping, "w", encoding="utf-8") as file:
         file.write(text)
-    out = os.path.join(room, "out")
+    return mapping
+
+
+def run_import(program, layout, paths, room, names, words=()):
+    """Runs an import by a layout's mapping with its edits. Returns the run, and the lines of what it wrote."""
+    mapping, out = mapping_in(layout, room), os.path.join(room, "out")
     ran = subprocess.run([program, "import", mapping, *paths, "--out", out, "--setup", SETUP, *words], capture_output=True, check=False)
     got = {"counts": ran.stdout.decode().splitlines()}
     got.update((name, lines_of(f"{out}.{name}")) for name in names)
@@ -813,12 +873,15 @@ def main(program, rows="100000", seed=None):
     whole = sum(layout.share for layout in LAYOUTS + TRADES)
     good = [judge(program, layout, dice, int(rows) * layout.share // whole) for layout in LAYOUTS]
     good.append(judge(program, LAYOUTS[0], dice, 2000, numbers=True))
-    good += [judge_refused(program, layout, dice, 2000) for layout in (LAYOUTS[0], TRADES[0])]
+    good += [judge_refused(program, layout, dice, 2000) for layout in (LAYOUTS[0], LAYOUTS[-1], TRADES[0])]
     good.append(judge_added(program, LAYOUTS[0], dice, 3000))
     good += [judge_trades(program, layout, dice, int(rows) * layout.share // whole) for layout in TRADES]
     # A symbol that is cut, many symbols on one tape, and more symbols than a roster has.
     good += [judge_shards(program, LAYOUTS[0], dice, count, limit, symbols, numbers) for count, limit, symbols, numbers in
              ((2000, 66, 5, False), (2000, 67, 30, True), (4000, 500, 40, False), (6000, 20000, 2300, True))]
+    by_symbol = replace(LAYOUTS[-2], edits=[*LAYOUTS[-2].edits, ('order = "given"', 'order = "symbol"')])
+    good += [judge_shards(program, by_symbol, dice, count, limit, symbols, numbers) for count, limit, symbols, numbers in
+             ((2000, 66, 5, False), (3000, 500, 40, True))]
     return 0 if all(good) else 1
 
 

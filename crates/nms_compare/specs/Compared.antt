@@ -42,6 +42,7 @@ skips cause.UnknownCondition = false
 skips (cause.OneSided side) = false
 skips (cause.BadPrice side) = false
 skips (cause.BadSize side) = false
+skips cause.UnknownSide = false
 skips (cause.HalfSide side) = false
 skips cause.Trailer = true
 skips cause.Listed = true

@@ -114,6 +114,7 @@ fn skips(cause: Cause) -> bool
         | Cause::OneSided(_)
         | Cause::BadPrice(_)
         | Cause::BadSize(_)
+        | Cause::UnknownSide
         | Cause::HalfSide(_) => false,
         Cause::Trailer | Cause::Listed | Cause::OtherSymbol => true,
     }

@@ -64,8 +64,8 @@ impl NationalMapping {
     /// How the rows of a file are read if its first row is `names`, which is empty if there is no header. `NoColumn` is the
     /// first key of the table `column` whose name is not in that row.
     pub fn vendor(&self, alloc: Global, names: &ByteRecord) -> Result<Vendor<'_>, MapFault<'static>>
-        ensures bids { IfOk result (λ vendor. ArePlaced self.now.bids (fields_of names.now) vendor.bids) }
-        ensures offers { IfOk result (λ vendor. ArePlaced self.now.offers (fields_of names.now) vendor.offers) }
+        ensures bids { IfOk result (λ vendor. ArePlaced self.now.bids.sources (fields_of names.now) vendor.bids) }
+        ensures offers { IfOk result (λ vendor. ArePlaced self.now.offers.sources (fields_of names.now) vendor.offers) }
         ensures order { IfOk result (λ vendor. vendor.order ≡ self.now.bids.order) }
         ensures meanings { IfOk result (λ vendor. vendor.meanings.now ≡ self.now.bids.meanings) }
     {

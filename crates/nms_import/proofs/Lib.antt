@@ -1,4 +1,5 @@
 mod ClockFacts
+mod KeptFacts
 mod RowFacts
 mod TextFacts
 mod TimeFacts

@@ -11,6 +11,7 @@ is_skipped cause.UnknownParticipant = false
 is_skipped cause.UnknownSymbol = false
 is_skipped cause.UnknownCondition = false
 is_skipped (cause.OneSided side) = false
+is_skipped cause.UnknownSide = false
 is_skipped (cause.BadPrice side) = false
 is_skipped (cause.BadSize side) = false
 is_skipped (cause.HalfSide side) = false

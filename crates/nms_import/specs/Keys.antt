@@ -38,13 +38,13 @@ abbrev pub is_others : Form → Bool
 is_others form.Others = true
 is_others _ = false
 
--- a key: its table, empty for the top; its name; whether mappings of quotes, of trades and of national bests have it; its form;
+-- a key: its table, empty for the top; its name; whether mappings of quotes, of sides, of trades and of national bests have it; its form;
 -- whether it is needed; the words of a choice, or of a column the keys that may be in its place or in whose place it may be; what is expected,
 -- empty for a column
 pub record Key : Type 0 where
   pub table : List ℕ
   pub name : List ℕ
-  pub kinds : Bool × Bool × Bool
+  pub kinds : Bool × Bool × Bool × Bool
   pub form : Form
   pub needed : Bool
   pub words : List (List ℕ)
@@ -52,7 +52,7 @@ pub record Key : Type 0 where
 
 -- a row of the table
 abbrev pub Row : Type 0
-Row = Bor (List ℕ) × Bor (List ℕ) × (Bool × Bool × Bool) × (Form × Bool × Bor (List (Bor (List ℕ))) × Bor (List ℕ))
+Row = Bor (List ℕ) × Bor (List ℕ) × (Bool × Bool × Bool × Bool) × (Form × Bool × Bor (List (Bor (List ℕ))) × Bor (List ℕ))
 
 -- the key of a row
 abbrev pub see : Row → Key
@@ -82,10 +82,11 @@ all_keys =
     KEYS
 
 -- whether mappings of a kind have a key
-abbrev pub has : Kind → Bool × Bool × Bool → Bool
+abbrev pub has : Kind → Bool × Bool × Bool × Bool → Bool
 has kind.Quotes kinds = kinds.0
-has kind.Trades kinds = kinds.1
-has kind.Bests kinds = kinds.2
+has kind.Sides kinds = kinds.1
+has kind.Trades kinds = kinds.2
+has kind.Bests kinds = kinds.3
 
 -- whether a key is of a table of mappings of a kind
 abbrev pub is_of : Kind → (table : List ℕ) → Key → Bool

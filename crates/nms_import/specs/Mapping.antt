@@ -1,7 +1,7 @@
 -- What a mapping makes of a row of a vendor's file: a change and its time, or the first cause why it makes none. This
 -- product's own rule.
 use Rattle.std.specs.Prelude.{ℕ, ◌+◌, ◌-◌, ◌*◌, ◌/◌, ◌%◌, ◌==◌, ◌&&◌, ◌||◌, codes, Bool, true, false, List, [], ◌∷◌, length, map}
-use Rattle.std.specs.Prelude.{not, take, drop, position, slice_get, bit_and}
+use Rattle.std.specs.Prelude.{is_none, not, take, drop, position, slice_get, bit_and}
 use Rattle.std.specs.Prelude.{nat_eq, nat_le, nat_lt, Option, Some, None, option_map, Result, Ok, Err, if◌then◌else◌}
 use Rattle.std.specs.List.{list_all, list_any}
 use Rattle.std.specs.Option.{option_map_or}
@@ -24,6 +24,8 @@ use Rattle.nms_import.specs.declared.cause.Cause.TheVariants as cause
 use Rattle.nms_import.specs.declared.column.Column.{Column}
 use Rattle.nms_import.specs.declared.column.Column.TheVariants as column
 use Rattle.nms_import.specs.declared.column.Columns.{Columns}
+use Rattle.nms_import.specs.declared.column.RowColumns.{RowColumns}
+use Rattle.nms_import.specs.declared.column.RowColumns.TheVariants as rows
 use Rattle.nms_import.specs.declared.entry.Entry.{Entry}
 use Rattle.nms_import.specs.declared.meanings.Half.{Half}
 use Rattle.nms_import.specs.declared.meanings.Half.TheVariants as half
@@ -35,6 +37,7 @@ use Rattle.nms_import.specs.declared.meanings.PriceUnit.TheVariants as unit
 use Rattle.nms_import.specs.declared.meanings.Renamed.{Renamed}
 use Rattle.nms_import.specs.declared.meanings.Replaced.{Replaced}
 use Rattle.nms_import.specs.declared.meanings.Said.{Said}
+use Rattle.nms_import.specs.declared.meanings.SideWords.{SideWords}
 use Rattle.nms_import.specs.declared.meanings.Word.{Word}
 use Rattle.nms_import.specs.Causes.{is_skipped}
 use Rattle.nms_import.specs.Times.{clock_of}
@@ -68,6 +71,35 @@ column_text (column.Bits place bits) row = bits_text bits (field row place)
 -- whether a text is one of the words
 abbrev pub is_listed : List Word → List ℕ → Bool
 is_listed words text = list_any (λ word. bytes_eq word.text.items text) words
+
+-- ---- the side of a row
+
+-- the side that a word names
+abbrev pub side_named : (bids offers : List Word) → List ℕ → Option Side
+side_named bids offers text =
+    if is_listed bids text then Some Bid else (if is_listed offers text then Some Offer else None)
+
+-- the side that a row names by a text, if each row has one side
+abbrev pub side_in : Option SideWords → List ℕ → Option Side
+side_in None text = None
+side_in (Some words) text = side_named words.bids.items words.offers.items text
+
+-- whether each row has one side, and a row's text for it names none
+abbrev pub lacks_side : Option SideWords → List ℕ → Bool
+lacks_side None text = false
+lacks_side (Some words) text = is_none (side_named words.bids.items words.offers.items text)
+
+-- the columns of a side; those of a bid, if the side is not known
+abbrev pub columns_of_side : (bids offers : Columns) → Option Side → Columns
+columns_of_side bids offers None = bids
+columns_of_side bids offers (Some Bid) = bids
+columns_of_side bids offers (Some Offer) = offers
+
+-- the columns by which a row is read: those of its side, if each row has one
+abbrev pub columns_of : RowColumns → Meanings → Record → Columns
+columns_of (rows.Both columns) mapping line = columns
+columns_of (rows.One bids offers) mapping line =
+    columns_of_side bids offers (side_in mapping.sides (column_text bids.side line))
 
 -- ---- prices and sizes
 
@@ -245,6 +277,7 @@ entry_of columns mapping roster line = do
   sym ← or_stop (symbol_in mapping roster (column_text columns.symbol line)) (no_symbol mapping)
   means ← meaning_of mapping (column_text columns.source line) (column_text columns.condition line)
   state ← state_of mapping means
+  sided ← stop_if (lacks_side mapping.sides (column_text columns.side line)) cause.UnknownSide
   said ← change_of columns mapping (unit_for mapping roster sym) line part sym state
   Ok (record { time = time; change = said; one_sided = is_one_sided means })
 

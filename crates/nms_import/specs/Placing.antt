@@ -5,9 +5,11 @@ use Rattle.nms_lines.specs.Layout.{Record}
 use Rattle.nms_import.specs.declared.column.Column.{Column}
 use Rattle.nms_import.specs.declared.column.Column.TheVariants as column
 use Rattle.nms_import.specs.declared.column.Columns.{Columns}
-use Rattle.nms_import.specs.declared.mapping.Mapping.{Mapping}
+use Rattle.nms_import.specs.declared.column.RowColumns.{RowColumns}
+use Rattle.nms_import.specs.declared.column.RowColumns.TheVariants as rows
 use Rattle.nms_import.specs.declared.mapping.Source.{Source}
 use Rattle.nms_import.specs.declared.mapping.Source.TheVariants as source
+use Rattle.nms_import.specs.declared.mapping.Sources.{Sources}
 
 -- the place of a column in each row
 abbrev pub column_place : Column → Option ℕ
@@ -42,15 +44,23 @@ IsPlaced (source.Fixed text) names placed = column_fixed placed ≡ Some text.it
 IsPlaced (source.PlaceBits place bits) names placed = bits_place bits placed ≡ Some place
 IsPlaced (source.NamedBits name bits) names placed = option_and_then (field_at names) (bits_place bits placed) ≡ Some name.items
 
--- each column of a mapping is placed
-pub record ArePlaced (mapping : Mapping) (names : Record) (columns : Columns) : Type 0 where
-  pub time : IsPlaced mapping.sources.time names columns.time
-  pub participant : IsPlaced mapping.sources.participant names columns.participant
-  pub symbol : IsPlaced mapping.sources.symbol names columns.symbol
-  pub bid : IsPlaced mapping.sources.bid names columns.bid
-  pub bid_size : IsPlaced mapping.sources.bid_size names columns.bid_size
-  pub offer : IsPlaced mapping.sources.offer names columns.offer
-  pub offer_size : IsPlaced mapping.sources.offer_size names columns.offer_size
-  pub source : IsPlaced mapping.sources.source names columns.source
-  pub condition : IsPlaced mapping.sources.condition names columns.condition
-  pub skip : IsPlaced mapping.sources.skip names columns.skip
+-- each column of which a mapping says where it is, is placed
+pub record ArePlaced (sources : Sources) (names : Record) (columns : Columns) : Type 0 where
+  pub time : IsPlaced sources.time names columns.time
+  pub participant : IsPlaced sources.participant names columns.participant
+  pub symbol : IsPlaced sources.symbol names columns.symbol
+  pub bid : IsPlaced sources.bid names columns.bid
+  pub bid_size : IsPlaced sources.bid_size names columns.bid_size
+  pub offer : IsPlaced sources.offer names columns.offer
+  pub offer_size : IsPlaced sources.offer_size names columns.offer_size
+  pub side : IsPlaced sources.side names columns.side
+  pub source : IsPlaced sources.source names columns.source
+  pub condition : IsPlaced sources.condition names columns.condition
+  pub skip : IsPlaced sources.skip names columns.skip
+
+-- the columns of a file's rows are placed; if each row has one side, those of bids and those of offers
+abbrev pub AreRowsPlaced : Sources → (offers : Option Sources) → (names : Record) → RowColumns → Type 0
+AreRowsPlaced sources None names (rows.Both columns) = ArePlaced sources names columns
+AreRowsPlaced sources None names (rows.One bids others) = ⊥
+AreRowsPlaced sources (Some offers) names (rows.Both columns) = ⊥
+AreRowsPlaced sources (Some offers) names (rows.One bids others) = ArePlaced sources names bids × ArePlaced offers names others

@@ -1,9 +1,11 @@
 -- What is read of a mapping's document. This product's own rule.
 use Rattle.std.specs.Prelude.{◌≡◌, ◌≢◌, ℕ, ◌<◌, ◌≤◌, codes, Bool, true, false, List, [], length, nat_le, nat_lt}
-use Rattle.std.specs.Prelude.{Option, Some, None, option_and_then, unwrap_or, if◌then◌else◌}
+use Rattle.std.specs.Prelude.{Option, Some, None, is_some, option_and_then, unwrap_or, if◌then◌else◌}
 use Rattle.std.specs.Option.{option_map_or}
 use Rattle.std.specs.Str.{bytes_eq}
+use Rattle.toml.specs.Data.{Members}
 use Rattle.nms_units.specs.declared.TheConstants.{MOST_LOT}
+use Rattle.nms_import.specs.declared.keys.Kind.{Kind}
 use Rattle.nms_import.specs.declared.keys.Kind.TheVariants as kind
 use Rattle.nms_import.specs.declared.mapping.Mapping.{Mapping}
 use Rattle.nms_import.specs.declared.mapping.Order.TheVariants as order
@@ -16,7 +18,7 @@ use Rattle.nms_import.specs.declared.meanings.TimeForm.{TimeForm}
 use Rattle.nms_import.specs.declared.meanings.TimeForm.TheVariants as form
 use Rattle.nms_import.specs.declared.meanings.Zone.{Zone}
 use Rattle.nms_import.specs.declared.meanings.Zone.TheVariants as zone
-use Rattle.nms_import.specs.Drafts.{Doc, text_at}
+use Rattle.nms_import.specs.Drafts.{Doc, plain, text_at}
 use Rattle.nms_import.specs.Findings.{faults_of}
 use Rattle.nms_import.specs.Forms.{is_delimiter, zone_in}
 
@@ -64,6 +66,21 @@ abbrev pub is_in_a_day : Zone → Bool
 is_in_a_day (zone.Moved seconds) = nat_lt seconds 86400
 is_in_a_day zone.NewYork = true
 
+-- a mapping of quotes whose rows have one side each, if its document says so
+abbrev pub is_text_of_sides : List ℕ → Bool
+is_text_of_sides text = bytes_eq text (codes "sides")
+
+abbrev pub kind_said : Members → Kind
+kind_said document =
+    if option_map_or is_text_of_sides (text_at (plain kind.Quotes document) (codes "file") (codes "kind")) false then kind.Sides
+    else kind.Quotes
+
+abbrev pub is_of_sides : Kind → Bool
+is_of_sides kind.Quotes = false
+is_of_sides kind.Sides = true
+is_of_sides kind.Trades = false
+is_of_sides kind.Bests = false
+
 -- what mappings of quotes and of trades both say: a zone is less than a day, and there are no words of quotes alone
 pub record AreReadOf (draft : Doc) (common : Meanings) : Type 0 where
   pub unit : common.price_unit ≡ unit_in draft
@@ -73,6 +90,7 @@ pub record AreReadOf (draft : Doc) (common : Meanings) : Type 0 where
   pub size_unit : common.size_unit ≡ 1
   pub no_price : common.no_price.items ≡ []
   pub said : common.said.items ≡ []
+  pub sides : common.sides ≡ None
 
 -- what a mapping of quotes says: a unit of size has 1 to 1,000 shares
 pub record AreMeaningsOf (draft : Doc) (meanings : Meanings) : Type 0 where
@@ -82,6 +100,7 @@ pub record AreMeaningsOf (draft : Doc) (meanings : Meanings) : Type 0 where
   pub day : is_in_a_day meanings.zone ≡ true
   pub some_shares : 0 < meanings.size_unit
   pub few_shares : meanings.size_unit ≤ MOST_LOT
+  pub sides : is_some meanings.sides ≡ is_of_sides draft.kind
 
 -- the mapping of a document that has no fault; national bests are found by their times
 pub record IsMappingOf (draft : Doc) (mapping : Mapping) : Type 0 where
@@ -89,6 +108,7 @@ pub record IsMappingOf (draft : Doc) (mapping : Mapping) : Type 0 where
   pub timed : draft.kind ≡ kind.Bests → mapping.order ≢ order.Free
   pub delimiter : is_delimiter mapping.file.delimiter ≡ true
   pub meanings : AreMeaningsOf draft mapping.meanings
+  pub offers : is_some mapping.offers ≡ is_of_sides draft.kind
 
 -- the empty text in every row
 abbrev pub is_nothing : Source → Bool

@@ -1,6 +1,6 @@
 -- What a row of one side means, in a file with a row for each bid and each offer: it changes this side of what its venue shows of
 -- its symbol, and keeps the other one. This product's own rule.
-use Rattle.std.specs.Prelude.{ℕ, ◌+◌, ◌*◌, ◌==◌, ◌&&◌, Bool, true, false, List, Option, Some, None, option_map, unwrap_or, slice_get}
+use Rattle.std.specs.Prelude.{ℕ, ◌≡◌, nat_lt, ◌+◌, ◌*◌, ◌==◌, ◌&&◌, Bool, true, false, List, Option, Some, None, option_map, unwrap_or, slice_get}
 use Rattle.std.specs.Prelude.{Result, Ok, Err, if◌then◌else◌}
 use Rattle.nms_quote.specs.Content.{Content}
 use Rattle.nms_quote.specs.declared.TheConstants.{MOST_PARTICIPANTS}
@@ -12,20 +12,15 @@ use Rattle.nms_quote.specs.declared.side_quote.Side.{Side}
 use Rattle.nms_quote.specs.declared.side_quote.Side.TheVariants.{Bid, Offer}
 use Rattle.nms_import.specs.declared.cause.Cause.{Cause}
 use Rattle.nms_import.specs.declared.cause.Cause.TheVariants as cause
+use Rattle.nms_import.specs.declared.entry.Entry.{Entry}
 use Rattle.nms_import.specs.declared.meanings.Half.{Half}
 use Rattle.nms_import.specs.declared.meanings.Half.TheVariants as half
-use Rattle.nms_import.specs.declared.meanings.Word.{Word}
 use Rattle.nms_import.specs.declared.side_rows.OneSide.{OneSide}
 use Rattle.nms_import.specs.declared.side_rows.SideRow.{SideRow}
 use Rattle.nms_import.specs.declared.side_rows.Sides.{Sides}
-use Rattle.nms_import.specs.Mapping.{◌>>=◌, is_listed}
+use Rattle.nms_import.specs.Mapping.{◌>>=◌}
 
 -- ---- what a row says
-
--- the side that a word names
-abbrev pub side_named : (bids offers : List Word) → List ℕ → Option Side
-side_named bids offers text =
-    if is_listed bids text then Some Bid else (if is_listed offers text then Some Offer else None)
 
 -- a row of a side is read as any other row, by columns in which the other side is empty: its change says the side, the state
 -- there, and the price and the shares, if the venue shows a quotation on this side
@@ -134,18 +129,44 @@ step_as withdraws sides row (Err why) = refused_step withdraws sides row.part ro
 abbrev pub step_of : Half → (withdraws : Bool) → Sides → SideRow → Step
 step_of half withdraws sides row = step_as withdraws sides row (quote_after half sides row)
 
+-- only one of the sides that are shown is manual
+abbrev pub is_mixed : (bid offer : QState) → Bool
+is_mixed Automated Manual = true
+is_mixed Manual Automated = true
+is_mixed bid offer = false
+
+abbrev pub is_half : (bid offer : Option OneSide) → Bool
+is_half (Some bid) (Some offer) = is_mixed bid.state offer.state
+is_half bid offer = false
+
+-- the entry of a row whose venue then shows these sides
+abbrev pub entry_at : SideRow → Sides → Change → Entry
+entry_at row sides said = record { time = row.time; change = said; one_sided = is_half sides.bid sides.offer }
+
 -- what each venue shows of each symbol after a row
 abbrev pub kept_after : Half → (withdraws : Bool) → Kept → SideRow → Kept
 kept_after half withdraws kept row =
     put kept row.part row.sym (step_of half withdraws (kept row.part row.sym) row).sides
 
+-- a venue shows nothing of a symbol after a withdrawal on both sides
+abbrev pub without : Kept → Change → Kept
+without kept (change.Quote part sym state bid offer) = put kept part sym no_sides
+without kept (change.State part sym state) = kept
+without kept (change.Withdraw part) = kept
+without kept (change.Lot sym lot) = kept
+
 -- ---- what is kept of a roster's symbols
 
--- how many symbols there are, and all sides, by the symbol and then by the venue
+-- for how many symbols there is room, and all sides, by the symbol and then by the venue
 pub record Stored : Type 0 where
   pub symbols : ℕ
   pub all : List Sides
 
 -- what each venue shows of each symbol
 abbrev pub kept_in : List Sides → Kept
-kept_in all part sym = unwrap_or (slice_get all (sym * MOST_PARTICIPANTS + part)) no_sides
+kept_in all part sym =
+    if nat_lt part MOST_PARTICIPANTS then unwrap_or (slice_get all (sym * MOST_PARTICIPANTS + part)) no_sides else no_sides
+
+-- what is kept is what each venue shows of each symbol
+abbrev pub IsKept : Stored → Kept → Type 0
+IsKept stored kept = (part sym : ℕ) → kept_in stored.all part sym ≡ kept part sym

@@ -28,6 +28,7 @@ left_after cause.UnknownParticipant left = left - 1
 left_after cause.UnknownSymbol left = left - 1
 left_after cause.UnknownCondition left = left - 1
 left_after (cause.OneSided side) left = left - 1
+left_after cause.UnknownSide left = left - 1
 left_after (cause.BadPrice side) left = left - 1
 left_after (cause.BadSize side) left = left - 1
 left_after (cause.HalfSide side) left = left - 1

@@ -4,7 +4,7 @@ ghost use Rattle.nms_import.specs.Causes.{is_skipped};
 
 use nms_quote::Side;
 
-/// Why a row makes no change: the first that holds, in this order. The first nine refuse the row, the others skip it.
+/// Why a row makes no change: the first that holds, in this order. The first ten refuse the row, the others skip it.
 #[derive(Clone, Copy, PartialEq, Eq)]
 pub enum Cause {
     /// Fewer columns than the mapping names.
@@ -19,6 +19,8 @@ pub enum Cause {
     UnknownCondition,
     /// The condition makes only this side manual. No record can say that, and the mapping refuses such rows.
     OneSided(Side),
+    /// Each row has one side, and the mapping does not list this row's word for it.
+    UnknownSide,
     /// The price of a side is not of the mapping's unit, or above 9,999,999.9999 dollars.
     BadPrice(Side),
     /// The size of a side is not 1 to 9 digits, or more than 999,999,999 shares.
@@ -45,6 +47,7 @@ impl Cause {
             | Cause::UnknownSymbol
             | Cause::UnknownCondition
             | Cause::OneSided(_)
+            | Cause::UnknownSide
             | Cause::BadPrice(_)
             | Cause::BadSize(_)
             | Cause::HalfSide(_) => false,

@@ -1,10 +1,13 @@
 //! The columns of a file: `specs/Mapping`.
 ghost use Rattle.std.specs.Prelude.{◌≡◌};
 ghost use Rattle.csv.specs.Records.{fields_of};
-ghost use Rattle.nms_import.specs.Mapping.{bits_text, column_text};
+ghost use Rattle.nms_import.specs.Mapping.{bits_text, column_text, columns_of, columns_of_side, side_in};
 
+use crate::meanings::Meanings;
+use crate::words::side_in;
 use csv::ByteRecord;
 use nms_lines::field_at;
+use nms_quote::Side;
 use nms_units::parse_digits;
 use std::alloc::Global;
 
@@ -37,6 +40,8 @@ pub struct Columns {
     pub offer: Column,
     /// The size of the offer.
     pub offer_size: Column,
+    /// The word for the row's side, if each row has one side.
+    pub side: Column,
     /// The first text of the condition.
     pub source: Column,
     /// The second text of the condition.
@@ -57,6 +62,7 @@ impl Drop for Columns {
             bid_size: _,
             offer: _,
             offer_size: _,
+            side: _,
             source: _,
             condition: _,
             skip: _,
@@ -78,10 +84,53 @@ impl Columns {
             bid_size: Column::Fixed(Vec::new(alloc)),
             offer: Column::Fixed(Vec::new(alloc)),
             offer_size: Column::Fixed(Vec::new(alloc)),
+            side: Column::Fixed(Vec::new(alloc)),
             source: Column::Fixed(Vec::new(alloc)),
             condition: Column::Fixed(Vec::new(alloc)),
             skip: Column::Fixed(Vec::new(alloc)),
         }
+    }
+}
+
+/// How the rows of one file are read.
+pub enum RowColumns {
+    /// Each row has both sides.
+    Both(Columns),
+    /// Each row has one side: the columns of a bid, and those of an offer. The other side is the empty text there.
+    One(Columns, Columns),
+}
+
+/// It has its own `Drop`, so that a function that holds one has one call at each exit, and not one for each part (docs/GATE.md).
+impl Drop for RowColumns {
+    fn drop(self) {
+        match self {
+            RowColumns::Both(_) => (),
+            RowColumns::One(_, _) => (),
+        }
+    }
+}
+
+impl RowColumns {
+    /// The columns by which a row is read: those of its side, if each row has one.
+    pub fn of_row<'a>(&'a self, meanings: &Meanings, row: &ByteRecord) -> &'a Columns
+        ensures { result.now ≡ columns_of self.now meanings.now (fields_of row.now) }
+    {
+        match self {
+            RowColumns::Both(columns) => columns,
+            RowColumns::One(bids, offers) => {
+                columns_of_side(bids, offers, side_in(&meanings.sides, bids.side.text(row)))
+            }
+        }
+    }
+}
+
+/// The columns of a side; those of a bid, if the side is not known.
+fn columns_of_side<'a>(bids: &'a Columns, offers: &'a Columns, side: Option<Side>) -> &'a Columns
+    ensures { result.now ≡ columns_of_side bids.now offers.now side }
+{
+    match side {
+        Some(Side::Bid) | None => bids,
+        Some(Side::Offer) => offers,
     }
 }
 

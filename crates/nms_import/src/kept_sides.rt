@@ -3,7 +3,7 @@ ghost use Rattle.std.specs.Prelude.{◌≡◌, ◌+◌, ◌*◌, ◌<◌};
 ghost use Rattle.nms_quote.specs.declared.TheConstants.{MOST_PARTICIPANTS};
 
 use crate::side_rows::Sides;
-use nms_quote::{MOST_PARTICIPANTS, Part, Sym};
+use nms_quote::{Change, MOST_PARTICIPANTS, Part, Sym};
 use std::alloc::{AllocError, Global};
 use std::marker::Model;
 
@@ -16,32 +16,58 @@ pub struct KeptSides {
 }
 
 impl Model for KeptSides {
-    ghost use Rattle.std.specs.Prelude.{◌≡◌, ◌*◌, length};
-    ghost use Rattle.nms_quote.specs.declared.TheConstants.{MOST_PARTICIPANTS};
+    ghost use Rattle.std.specs.Prelude.{◌≡◌, ◌≤◌, ◌*◌, length};
+    ghost use Rattle.nms_quote.specs.declared.TheConstants.{MOST_PARTICIPANTS, MOST_SYMBOLS};
     ghost use Rattle.nms_import.specs.SideRows.{Stored};
 
     ghost Value = { Stored };
 
     ghost view = { λ k. record { symbols = k.symbols; all = k.all.items } };
 
-    ghost invariant = { λ k. length k.all.items ≡ k.symbols * MOST_PARTICIPANTS };
+    ghost invariant = { λ k. (length k.all.items ≡ k.symbols * MOST_PARTICIPANTS) × (k.symbols ≤ MOST_SYMBOLS) };
 }
 
 impl KeptSides {
-    ghost use Rattle.std.specs.Prelude.{◌≡◌, ◌<◌, ◌≤◌, ℕ, IfOk};
+    ghost use Rattle.std.specs.Prelude.{◌≡◌, ◌<◌, ◌≤◌, ℕ, OnOk};
     ghost use Rattle.nms_quote.specs.declared.TheConstants.{MOST_PARTICIPANTS, MOST_SYMBOLS};
-    ghost use Rattle.nms_import.specs.SideRows.{kept_in, no_sides, put};
+    ghost use Rattle.nms_quote.specs.Roster.{Listing, holds, sizes_of};
+    ghost use Rattle.std.specs.Prelude.{length, true};
+    ghost use Rattle.nms_import.specs.SideRows.{kept_in, no_sides, put, without};
 
-    /// Before any row, of n symbols.
-    #[tactic(auto, using(crate::proofs::SideFacts::none_kept))]
-    pub fn new(alloc: Global, symbols: usize) -> Result<KeptSides, AllocError>
-        requires few { symbols ≤ MOST_SYMBOLS }
-        ensures symbols { IfOk result (λ stored. stored.symbols ≡ symbols) }
-        ensures nothing { IfOk result (λ stored. (part sym : ℕ) → kept_in stored.all part sym ≡ no_sides) }
+    /// Before any row. It takes no memory before there is room for a symbol.
+    pub fn new(alloc: Global) -> KeptSides
+        ensures symbols { result.symbols ≡ 0 }
+        ensures nothing { (part sym : ℕ) → kept_in result.all part sym ≡ no_sides }
     {
-        let mut all = Vec::new(alloc);
-        all.resize(symbols * usize::from(MOST_PARTICIPANTS), Sides::none())?;
-        Ok(KeptSides { symbols, all })
+        KeptSides {
+            symbols: 0,
+            all: Vec::new(alloc),
+        }
+    }
+
+    /// Makes room for n symbols, if there is less. What is kept stays.
+    #[tactic(auto, using(crate::proofs::SideFacts::kept_grown))]
+    pub fn make_room(&mut self, symbols: usize) -> Result<(), AllocError>
+        requires few { symbols ≤ MOST_SYMBOLS }
+        ensures room { OnOk result (symbols ≤ self.new.symbols) }
+        ensures kept { OnOk result ((part sym : ℕ) → kept_in self.new.all part sym ≡ kept_in self.old.all part sym) }
+    {
+        if self.symbols < symbols {
+            self.all
+                .resize(symbols * usize::from(MOST_PARTICIPANTS), Sides::none())?;
+            self.symbols = symbols;
+        }
+        Ok(())
+    }
+
+    /// Lets no participant show anything. The room stays.
+    pub fn clear(&mut self) -> Result<(), AllocError>
+        ensures nothing { OnOk result ((part sym : ℕ) → kept_in self.new.all part sym ≡ no_sides) }
+    {
+        let symbols = self.symbols;
+        self.symbols = 0;
+        self.all.clear();
+        self.make_room(symbols)
     }
 
     /// What a participant shows of a symbol.
@@ -56,16 +82,29 @@ impl KeptSides {
         }
     }
 
-    /// Lets a participant show these sides of a symbol.
+    /// Lets a participant show these sides of a symbol, if there is room for it.
     #[tactic(auto, using(crate::proofs::SideFacts::kept_put))]
     pub fn put(&mut self, part: Part, sym: Sym, sides: Sides)
-        requires there { sym < self.old.symbols }
         ensures symbols { self.new.symbols ≡ self.old.symbols }
-        ensures put { (other_part other_sym : ℕ) → other_part < MOST_PARTICIPANTS
+        ensures put { sym < self.old.symbols → (other_part other_sym : ℕ)
             → kept_in self.new.all other_part other_sym ≡ put (kept_in self.old.all) part sym sides other_part other_sym }
     {
         let place = place_of(part, sym);
-        self.all[place] = sides;
+        if place < self.all.len() {
+            self.all[place] = sides;
+        }
+    }
+
+    /// Lets the participant of a withdrawal show nothing of its symbol.
+    pub fn withdraw(&mut self, change: &Change)
+        ensures symbols { self.new.symbols ≡ self.old.symbols }
+        ensures without { (roster : Listing) → holds (sizes_of roster) change.now ≡ true → length roster.syms ≤ self.old.symbols
+            → (other_part other_sym : ℕ) → kept_in self.new.all other_part other_sym ≡ without (kept_in self.old.all) change.now other_part other_sym }
+    {
+        match *change {
+            Change::Quote { part, sym, .. } => self.put(part, sym, Sides::none()),
+            Change::State { .. } | Change::Withdraw { .. } | Change::Lot { .. } => {}
+        }
     }
 }
 

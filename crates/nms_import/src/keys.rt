@@ -10,6 +10,8 @@ use std::alloc::{AllocError, Global};
 pub enum Kind {
     /// A mapping of quotes, for `import`.
     Quotes,
+    /// A mapping of quotes whose rows have one side each, for `import`.
+    Sides,
     /// A mapping of trades, for `import`.
     Trades,
     /// A mapping of national bests, for `compare`.
@@ -106,8 +108,8 @@ impl Form {
     }
 }
 
-/// Whether mappings of quotes, of trades and of national bests have a key.
-pub type Kinds = (bool, bool, bool);
+/// Whether mappings of quotes, of sides, of trades and of national bests have a key.
+pub type Kinds = (bool, bool, bool, bool);
 
 /// What is at a key: its form; whether it is needed; the words of a choice, of which an absent key has the first, or of a
 /// column the keys that may be in its place, or in whose place it may be; and what is expected, empty for a column.
@@ -116,21 +118,27 @@ pub type Rule = (Form, bool, &'static [&'static str], &'static str);
 /// A key: its table, empty for the top; its name; the mappings that have it; and the rule for its value.
 pub type Row = (&'static str, &'static str, Kinds, Rule);
 
-const ALL: Kinds = (true, true, true);
+const ALL: Kinds = (true, true, true, true);
 
-const QUOTED: Kinds = (true, false, true);
+const QUOTED: Kinds = (true, true, false, true);
 
-const NAMED: Kinds = (true, true, false);
+const PAIRED: Kinds = (true, false, false, true);
 
-const QUOTES: Kinds = (true, false, false);
+const NAMED: Kinds = (true, true, true, false);
 
-const TRADES: Kinds = (false, true, false);
+const QUOTES: Kinds = (true, true, false, false);
 
-const BESTS: Kinds = (false, false, true);
+const SIDES: Kinds = (false, true, false, false);
+
+const SINGLE: Kinds = (false, true, true, false);
+
+const TRADES: Kinds = (false, false, true, false);
+
+const BESTS: Kinds = (false, false, false, true);
 
 const A_TABLE: &str = "a table, as after a line [file]";
 
-const A_KIND: &str = "\"quotes\", or for import \"trades\"";
+const A_KIND: &str = "\"quotes\", or for import \"sides\" or \"trades\"";
 
 const A_BYTE: &str = "a text of one byte other than a quote and the end of a line, as \"|\"";
 
@@ -169,6 +177,9 @@ const SKIPPED: &str = "\"skip\" or \"refuse\"";
 
 const ONCE: &str = "conditions that stand in no other list, and once";
 
+/// What is expected of the words for a side.
+pub const IN_ONE_LIST: &str = "an array of words that stand in no other list, and once";
+
 const HALVES: &str = "\"refuse\", \"manual\" or \"automated\"";
 
 const LETTER: &str = "an array of texts of one letter, as [\"F\", \"4\"]";
@@ -182,6 +193,8 @@ const HALF_WORDS: &[&'static str] = &["refuse", "manual", "automated"];
 const TABLE: Rule = (Form::Table, false, &[], A_TABLE);
 
 const OF_QUOTES: Rule = (Form::Choice, false, &["quotes"], A_KIND);
+
+const OF_SIDES: Rule = (Form::Choice, true, &["sides"], A_KIND);
 
 const OF_TRADES: Rule = (Form::Choice, true, &["trades"], A_KIND);
 
@@ -243,6 +256,8 @@ const HALF: Rule = (Form::Choice, false, HALF_WORDS, HALVES);
 
 const WORDS: Rule = (Form::Words, false, &[], A_LIST);
 
+const SIDE_WORDS: Rule = (Form::Conditions, true, &[], IN_ONE_LIST);
+
 const LETTERS: Rule = (Form::Letters, false, &[], LETTER);
 
 const OTHERS: Rule = (Form::Others, false, &[], LETTER);
@@ -263,7 +278,7 @@ pub const A_NUMBER: &str =
     "the number of a column, 1 to 1000, { fixed = \"TEXT\" } or { column = 3, bits = 128 } (names need header = true)";
 
 /// The keys of all mappings, table by table.
-pub static KEYS: [Row; 78] = [
+pub static KEYS: [Row; 84] = [
     ("", "file", ALL, TABLE),
     ("", "column", ALL, TABLE),
     ("", "price", ALL, TABLE),
@@ -272,11 +287,12 @@ pub static KEYS: [Row; 78] = [
     ("", "participant", ALL, TABLE),
     ("", "symbol", ALL, TABLE),
     ("", "state", QUOTED, TABLE),
-    ("", "side", TRADES, TABLE),
+    ("", "side", SINGLE, TABLE),
     ("", "flags", TRADES, TABLE),
     ("", "exempt", TRADES, TABLE),
     ("", "skip", ALL, TABLE),
-    ("file", "kind", QUOTED, OF_QUOTES),
+    ("file", "kind", PAIRED, OF_QUOTES),
+    ("file", "kind", SIDES, OF_SIDES),
     ("file", "kind", TRADES, OF_TRADES),
     ("file", "delimiter", ALL, DELIMITER),
     ("file", "header", ALL, FLAG),
@@ -289,14 +305,17 @@ pub static KEYS: [Row; 78] = [
     ("column", "participant", NAMED, NEEDED),
     ("column", "symbol", ALL, NEEDED),
     ("column", "bid_participant", BESTS, VENUE),
-    ("column", "bid", QUOTED, NEEDED),
-    ("column", "bid_size", QUOTED, NEEDED),
+    ("column", "bid", PAIRED, NEEDED),
+    ("column", "bid_size", PAIRED, NEEDED),
     ("column", "offer_participant", BESTS, OFFER_VENUE),
     ("column", "ask_participant", BESTS, ASK_VENUE),
-    ("column", "offer", QUOTED, OFFER),
-    ("column", "ask", QUOTED, ASK),
-    ("column", "offer_size", QUOTED, OFFER_SIZE),
-    ("column", "ask_size", QUOTED, ASK_SIZE),
+    ("column", "offer", PAIRED, OFFER),
+    ("column", "ask", PAIRED, ASK),
+    ("column", "offer_size", PAIRED, OFFER_SIZE),
+    ("column", "ask_size", PAIRED, ASK_SIZE),
+    ("column", "side", SIDES, NEEDED),
+    ("column", "price", SIDES, NEEDED),
+    ("column", "size", SIDES, NEEDED),
     ("column", "price", TRADES, NEEDED),
     ("column", "shares", TRADES, NEEDED),
     ("column", "side", TRADES, COLUMN),
@@ -318,11 +337,13 @@ pub static KEYS: [Row; 78] = [
     ("symbol", "unknown", ALL, UNKNOWN),
     ("state", "automated", QUOTED, CONDITIONS),
     ("state", "manual", QUOTED, CONDITIONS),
-    ("state", "manual_bid", QUOTED, CONDITIONS),
-    ("state", "manual_offer", QUOTED, CONDITIONS),
+    ("state", "manual_bid", PAIRED, CONDITIONS),
+    ("state", "manual_offer", PAIRED, CONDITIONS),
     ("state", "halted", QUOTED, CONDITIONS),
     ("state", "none", QUOTED, CONDITIONS),
     ("state", "half", QUOTED, HALF),
+    ("side", "bid", SIDES, SIDE_WORDS),
+    ("side", "offer", SIDES, SIDE_WORDS),
     ("side", "bought", TRADES, WORDS),
     ("side", "sold", TRADES, WORDS),
     ("side", "neither", TRADES, WORDS),
@@ -350,8 +371,9 @@ fn has(kinds: Kinds, kind: Kind) -> bool
 {
     match kind {
         Kind::Quotes => kinds.0,
-        Kind::Trades => kinds.1,
-        Kind::Bests => kinds.2,
+        Kind::Sides => kinds.1,
+        Kind::Trades => kinds.2,
+        Kind::Bests => kinds.3,
     }
 }
 
@@ -383,6 +405,12 @@ pub fn keys_text(
 ) -> Result<String, AllocError> {
     if kind == Kind::Bests && table == "column" && other == "participant" {
         return String::from_str(alloc, "bid_participant and offer_participant in its place");
+    }
+    if kind == Kind::Quotes && other == "side" {
+        return String::from_str(
+            alloc,
+            "kind = \"sides\" or kind = \"trades\" in [file], next to it",
+        );
     }
     let begun = if is_long(kind, table) { "one of " } else { "" };
     let mut text = String::from_str(alloc, begun)?;

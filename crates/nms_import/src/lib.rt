@@ -33,7 +33,7 @@ mod time;
 mod words;
 
 pub use cause::Cause;
-pub use column::{Column, Columns};
+pub use column::{Column, Columns, RowColumns};
 pub use draft::{Draft, Meant, written_as};
 pub use entry::Entry;
 pub use faults::{check, find_faults};
@@ -47,9 +47,9 @@ pub use laws::{worked_examples, worked_faults, worked_sides};
 pub use left::Left;
 pub use map_fault::{Finding, MapFault, Wrong};
 pub use mapping::{FileForm, Mapping, Order, Source, place_of};
-pub use mapping_reading::{document_of, key_of, mapping_by, mapping_of};
+pub use mapping_reading::{document_of, key_of, kind_said, mapping_by, mapping_of};
 pub use meanings::{
-    Half, Meaning, Meanings, PriceUnit, Renamed, Replaced, Said, TimeForm, Word, Zone,
+    Half, Meaning, Meanings, PriceUnit, Renamed, Replaced, Said, SideWords, TimeForm, Word, Zone,
 };
 pub use noting::Notes;
 pub use number::without_zeros;
@@ -57,7 +57,9 @@ pub use reading::{add_words, byte_in, common_in, file_in, source_at};
 pub use row::{entry_with, left_in, left_with, read_row, symbol_in};
 pub use row_source::RowSource;
 pub use rows::{line_of, next_row, open_rows};
-pub use side_rows::{OneSide, SideRow, Sides, quote_after, side_named, side_row, sides_after};
+pub use side_rows::{
+    OneSide, SideRow, SideStep, Sides, quote_after, side_row, side_said, sides_after, step_of,
+};
 pub use tally::{MOST_ROWS, Sums, Tally, sum_of};
 pub use telling::{
     RowPlace, Telling, Told, column_of, most_of, no_time, sentence_of, show_row, write_symbols,
@@ -65,7 +67,7 @@ pub use telling::{
 };
 pub use time::{append_clock, append_line, clock_of};
 pub use toml::Table;
-pub use words::{is_listed, name_of};
+pub use words::{is_listed, name_of, side_in, side_named};
 
 /// How many rows that make no change are shown, for all files together.
 pub const MOST_TOLD: u64 = 100;

@@ -4,7 +4,7 @@ ghost use Rattle.csv.specs.Records.{field_at, fields_of};
 ghost use Rattle.nms_import.specs.Placing.{IsPlaced, columns_needed};
 ghost use Rattle.nms_import.specs.Refusals.{is_of_first_row};
 
-use crate::column::{Column, Columns};
+use crate::column::{Column, Columns, RowColumns};
 use crate::map_fault::MapFault;
 use crate::meanings::Meanings;
 use csv::ByteRecord;
@@ -65,6 +65,8 @@ impl Drop for Source {
 pub struct Sources {
     /// The key of the participant's column.
     pub(crate) participant_key: &'static str,
+    /// The keys of the columns of the bid and of its size.
+    pub(crate) bid_keys: (&'static str, &'static str),
     /// The keys of the columns of the offer and of its size.
     pub(crate) offer_keys: (&'static str, &'static str),
     pub(crate) time: Source,
@@ -74,6 +76,7 @@ pub struct Sources {
     pub(crate) bid_size: Source,
     pub(crate) offer: Source,
     pub(crate) offer_size: Source,
+    pub(crate) side: Source,
     pub(crate) source: Source,
     pub(crate) condition: Source,
     pub(crate) skip: Source,
@@ -84,6 +87,7 @@ impl Drop for Sources {
     fn drop(self) {
         let Sources {
             participant_key: _,
+            bid_keys: _,
             offer_keys: _,
             time: _,
             participant: _,
@@ -92,6 +96,7 @@ impl Drop for Sources {
             bid_size: _,
             offer: _,
             offer_size: _,
+            side: _,
             source: _,
             condition: _,
             skip: _,
@@ -107,7 +112,10 @@ pub struct Mapping {
     pub order: Order,
     /// What the texts mean.
     pub meanings: Meanings,
+    /// The columns of a row; those of a bid, if each row has one side.
     pub(crate) sources: Sources,
+    /// The columns of an offer, if each row has one side.
+    pub(crate) offers: Option<Sources>,
 }
 
 /// It has its own `Drop`, so that a function that holds one has one call at each exit, and not one for each part (docs/GATE.md).
@@ -118,6 +126,7 @@ impl Drop for Mapping {
             order: _,
             meanings: _,
             sources: _,
+            offers: _,
         } = self;
     }
 }
@@ -143,30 +152,65 @@ impl Source {
 impl Mapping {
     ghost use Rattle.std.specs.Prelude.{◌≡◌, IfErr, IfOk, true};
     ghost use Rattle.csv.specs.Records.{fields_of};
-    ghost use Rattle.nms_import.specs.Placing.{ArePlaced};
+    ghost use Rattle.nms_import.specs.Placing.{ArePlaced, AreRowsPlaced};
     ghost use Rattle.nms_import.specs.Refusals.{is_of_first_row};
 
     /// The columns of a file whose first row is `names`; `names` is empty if the file has no header.
     ///
     /// `NoColumn` is the first key of the table `column` whose name the row lacks.
     pub fn columns(&self, alloc: Global, names: &ByteRecord) -> Result<Columns, MapFault<'static>>
+        ensures placed { IfOk result (λ columns. ArePlaced self.now.sources (fields_of names.now) columns) }
+        ensures fault { IfErr result (λ fault. is_of_first_row fault ≡ true) }
+    {
+        self.sources.columns(alloc, names)
+    }
+
+    /// The same, and how the rows are read by them.
+    pub fn row_columns(
+        &self,
+        alloc: Global,
+        names: &ByteRecord,
+    ) -> Result<RowColumns, MapFault<'static>>
+        ensures placed { IfOk result (AreRowsPlaced self.now.sources self.now.offers (fields_of names.now)) }
+        ensures fault { IfErr result (λ fault. is_of_first_row fault ≡ true) }
+    {
+        let own = self.sources.columns(alloc, names)?;
+        match &self.offers {
+            None => Ok(RowColumns::Both(own)),
+            Some(offers) => match offers.columns(alloc, names) {
+                Ok(offers) => Ok(RowColumns::One(own, offers)),
+                Err(fault) => Err(fault),
+            },
+        }
+    }
+}
+
+impl Sources {
+    ghost use Rattle.std.specs.Prelude.{◌≡◌, IfErr, IfOk, true};
+    ghost use Rattle.csv.specs.Records.{fields_of};
+    ghost use Rattle.nms_import.specs.Placing.{ArePlaced};
+    ghost use Rattle.nms_import.specs.Refusals.{is_of_first_row};
+
+    /// The columns of a file whose first row is `names`.
+    fn columns(&self, alloc: Global, names: &ByteRecord) -> Result<Columns, MapFault<'static>>
         ensures placed { IfOk result (λ columns. ArePlaced self.now (fields_of names.now) columns) }
         ensures fault { IfErr result (λ fault. is_of_first_row fault ≡ true) }
     {
-        let from = &self.sources;
         let mut all = Columns::none(alloc);
         let width = &mut all.width;
-        all.time = place_of(alloc, &from.time, "time", names, width)?;
-        all.participant = place_of(alloc, &from.participant, from.participant_key, names, width)?;
-        all.symbol = place_of(alloc, &from.symbol, "symbol", names, width)?;
-        all.bid = place_of(alloc, &from.bid, "bid", names, width)?;
-        all.bid_size = place_of(alloc, &from.bid_size, "bid_size", names, width)?;
-        let (offer, offer_size) = from.offer_keys;
-        all.offer = place_of(alloc, &from.offer, offer, names, width)?;
-        all.offer_size = place_of(alloc, &from.offer_size, offer_size, names, width)?;
-        all.source = place_of(alloc, &from.source, "condition", names, width)?;
-        all.condition = place_of(alloc, &from.condition, "condition", names, width)?;
-        all.skip = place_of(alloc, &from.skip, "skip", names, width)?;
+        all.time = place_of(alloc, &self.time, "time", names, width)?;
+        all.participant = place_of(alloc, &self.participant, self.participant_key, names, width)?;
+        all.symbol = place_of(alloc, &self.symbol, "symbol", names, width)?;
+        all.side = place_of(alloc, &self.side, "side", names, width)?;
+        let (bid, bid_size) = self.bid_keys;
+        all.bid = place_of(alloc, &self.bid, bid, names, width)?;
+        all.bid_size = place_of(alloc, &self.bid_size, bid_size, names, width)?;
+        let (offer, offer_size) = self.offer_keys;
+        all.offer = place_of(alloc, &self.offer, offer, names, width)?;
+        all.offer_size = place_of(alloc, &self.offer_size, offer_size, names, width)?;
+        all.source = place_of(alloc, &self.source, "condition", names, width)?;
+        all.condition = place_of(alloc, &self.condition, "condition", names, width)?;
+        all.skip = place_of(alloc, &self.skip, "skip", names, width)?;
         Ok(all)
     }
 }

@@ -1,11 +1,10 @@
 //! Reading a mapping of quotes from its TOML document: `specs/Readings`.
-ghost use Rattle.std.specs.Prelude.{◌≡◌, ◌≢◌, ◌<◌, ◌≤◌, IfErr, IfOk, Some, None, true};
+ghost use Rattle.std.specs.Prelude.{◌≡◌, ◌≢◌, ◌<◌, ◌≤◌, IfErr, IfOk, Some, None, is_some, true};
 ghost use Rattle.toml.specs.Parse.{parse_document};
 ghost use Rattle.toml.specs.View.{table_view};
 ghost use Rattle.nms_units.specs.declared.TheConstants.{MOST_LOT};
-ghost use Rattle.nms_import.specs.declared.keys.Kind.TheVariants as kind;
 ghost use Rattle.nms_import.specs.Findings.{IsFirst, faults_of};
-ghost use Rattle.nms_import.specs.Readings.{AreMeaningsOf, IsMappingOf};
+ghost use Rattle.nms_import.specs.Readings.{AreMeaningsOf, IsMappingOf, is_of_sides, kind_said};
 ghost use Rattle.nms_import.specs.Drafts.{doc_of, plain};
 ghost use Rattle.nms_import.specs.Refusals.{is_of_text};
 
@@ -14,7 +13,7 @@ use crate::faults::check;
 use crate::keys::Kind;
 use crate::map_fault::MapFault;
 use crate::mapping::{Mapping, Order, Source, Sources};
-use crate::meanings::{Half, Meaning, Meanings, Said};
+use crate::meanings::{Half, Meaning, Meanings, Said, SideWords};
 use crate::reading::{add_words, common_in, file_in, number_in, source_at, source_of};
 use nms_quote::{QState, Side};
 use nms_units::MOST_LOT;
@@ -56,10 +55,24 @@ fn line_at(text: &str, place: usize) -> u64 {
 
 /// The mapping of quotes that a document gives, or the first of its faults.
 pub fn mapping_of(alloc: Global, document: &Table) -> Result<Mapping, MapFault<'_>>
-    ensures mapping { IfOk result (IsMappingOf (plain kind.Quotes (table_view document.now))) }
-    ensures refused { IfErr result (IsFirst (faults_of (plain kind.Quotes (table_view document.now)))) }
+    ensures mapping { IfOk result (IsMappingOf (plain (kind_said (table_view document.now)) (table_view document.now))) }
+    ensures refused { IfErr result (IsFirst (faults_of (plain (kind_said (table_view document.now)) (table_view document.now)))) }
 {
-    mapping_by(alloc, Draft::new(Kind::Quotes, document), "participant")
+    mapping_by(
+        alloc,
+        Draft::new(kind_said(document), document),
+        "participant",
+    )
+}
+
+/// What a mapping of quotes is for: `[file] kind = "sides"` says that each row has one side.
+pub fn kind_said(document: &Table) -> Kind
+    ensures { result ≡ kind_said (table_view document.now) }
+{
+    match Draft::new(Kind::Quotes, document).text("file", "kind") {
+        Some("sides") => Kind::Sides,
+        Some(_) | None => Kind::Quotes,
+    }
 }
 
 /// The mapping that a document gives, or the first of its faults. The participant's column is that of the given key.
@@ -73,12 +86,37 @@ pub fn mapping_by<'a>(
 {
     check(alloc, draft)?;
     let meanings = meanings_in(alloc, draft)?;
+    let sources = sources_in(
+        alloc,
+        draft,
+        participant,
+        bid_keys(draft),
+        offer_keys(draft),
+    )?;
     Ok(Mapping {
         file: file_in(draft),
         order: order_in(draft),
         meanings,
-        sources: sources_in(alloc, draft, participant)?,
+        sources,
+        offers: offers_in(alloc, draft, participant)?,
     })
+}
+
+/// What the mapping says of the columns of an offer, if each row has one side.
+fn offers_in(
+    alloc: Global,
+    draft: Draft<'_>,
+    participant: &'static str,
+) -> Result<Option<Sources>, AllocError>
+    ensures { IfOk result (λ offers. is_some offers ≡ is_of_sides (doc_of draft.entry).kind) }
+{
+    if draft.kind != Kind::Sides {
+        return Ok(None);
+    }
+    match sources_in(alloc, draft, participant, BOTH_SIDES, ONE_SIDE) {
+        Ok(offers) => Ok(Some(offers)),
+        Err(error) => Err(error),
+    }
 }
 
 /// The order of the rows. Because national bests are found by their times, the order of theirs is never free.
@@ -103,7 +141,24 @@ fn meanings_in(alloc: Global, draft: Draft<'_>) -> Result<Meanings, AllocError>
     all.half = half_in(draft);
     add_words(alloc, draft, "price", "none", &mut all.no_price)?;
     add_states(alloc, draft, &mut all.said)?;
+    all.sides = sides_in(alloc, draft)?;
     Ok(all)
+}
+
+/// The words for the sides, if each row has one side.
+fn sides_in(alloc: Global, draft: Draft<'_>) -> Result<Option<SideWords>, AllocError>
+    ensures { IfOk result (λ sides. is_some sides ≡ is_of_sides (doc_of draft.entry).kind) }
+{
+    if draft.kind != Kind::Sides {
+        return Ok(None);
+    }
+    let mut words = SideWords {
+        bids: Vec::new(alloc),
+        offers: Vec::new(alloc),
+    };
+    add_words(alloc, draft, "side", "bid", &mut words.bids)?;
+    add_words(alloc, draft, "side", "offer", &mut words.offers)?;
+    Ok(Some(words))
 }
 
 /// The number of shares that a unit of size has: 1, or those of a lot.
@@ -176,18 +231,43 @@ pub fn key_of(draft: Draft<'_>, key: &'static str, other: &'static str) -> &'sta
     }
 }
 
+/// The keys of the columns of a side and of its size.
+type SideKeys = (&'static str, &'static str);
+
+/// Those of the bid, if a row has both sides. A mapping of rows of one side has no such keys.
+const BOTH_SIDES: SideKeys = ("bid", "bid_size");
+
+/// Those of the row's side, if it has one.
+const ONE_SIDE: SideKeys = ("price", "size");
+
+/// The keys of the bid's columns. Of a row with one side they are those of its side.
+fn bid_keys(draft: Draft<'_>) -> SideKeys {
+    if draft.kind == Kind::Sides {
+        ONE_SIDE
+    } else {
+        BOTH_SIDES
+    }
+}
+
+/// The keys of the offer's columns. A mapping of rows of one side has no such keys.
+fn offer_keys(draft: Draft<'_>) -> SideKeys {
+    (
+        key_of(draft, "offer", "ask"),
+        key_of(draft, "offer_size", "ask_size"),
+    )
+}
+
 /// What the mapping says of the columns.
 fn sources_in(
     alloc: Global,
     draft: Draft<'_>,
     participant: &'static str,
+    bid_keys: SideKeys,
+    offer_keys: SideKeys,
 ) -> Result<Sources, AllocError> {
-    let offer_keys = (
-        key_of(draft, "offer", "ask"),
-        key_of(draft, "offer_size", "ask_size"),
-    );
     let mut all = Sources {
         participant_key: participant,
+        bid_keys,
         offer_keys,
         time: Source::nothing(alloc),
         participant: Source::nothing(alloc),
@@ -196,6 +276,7 @@ fn sources_in(
         bid_size: Source::nothing(alloc),
         offer: Source::nothing(alloc),
         offer_size: Source::nothing(alloc),
+        side: Source::nothing(alloc),
         source: Source::nothing(alloc),
         condition: Source::nothing(alloc),
         skip: Source::nothing(alloc),
@@ -203,8 +284,9 @@ fn sources_in(
     all.time = source_at(alloc, draft, "time")?;
     all.participant = source_at(alloc, draft, participant)?;
     all.symbol = source_at(alloc, draft, "symbol")?;
-    all.bid = source_at(alloc, draft, "bid")?;
-    all.bid_size = source_at(alloc, draft, "bid_size")?;
+    all.side = source_at(alloc, draft, "side")?;
+    all.bid = source_at(alloc, draft, bid_keys.0)?;
+    all.bid_size = source_at(alloc, draft, bid_keys.1)?;
     all.offer = source_at(alloc, draft, offer_keys.0)?;
     all.offer_size = source_at(alloc, draft, offer_keys.1)?;
     all.skip = source_at(alloc, draft, "skip")?;

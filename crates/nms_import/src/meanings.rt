@@ -96,6 +96,15 @@ pub struct Said {
     pub meaning: Meaning,
 }
 
+/// The words for the sides, if each row has one side.
+#[derive(Drop)]
+pub struct SideWords {
+    /// The words for a bid.
+    pub bids: Vec<Word>,
+    /// The words for an offer.
+    pub offers: Vec<Word>,
+}
+
 /// What the texts of a file mean.
 pub struct Meanings {
     /// How a time is written.
@@ -122,6 +131,8 @@ pub struct Meanings {
     pub said: Vec<Said>,
     /// What is done with a row that has only one manual side.
     pub half: Half,
+    /// The words for the side of a row; `None` if each row has both sides.
+    pub sides: Option<SideWords>,
     /// Whether the participant of a refused row shows nothing of its symbol until its next row; else the earlier quotation is kept.
     pub withdraws: bool,
     /// The words that a last line begins with.
@@ -146,6 +157,7 @@ impl Drop for Meanings {
             skips_symbols: _,
             said: _,
             half: _,
+            sides: _,
             withdraws: _,
             ends: _,
             skips: _,

@@ -79,6 +79,7 @@ pub fn common_in(alloc: Global, draft: Draft<'_>) -> Result<Meanings, AllocError
         skips_symbols: draft.text("symbol", "unknown") == Some("skip"),
         said: Vec::new(alloc),
         half: Half::Refuse,
+        sides: None,
         withdraws: false,
         ends: Vec::new(alloc),
         skips: Vec::new(alloc),

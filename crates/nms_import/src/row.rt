@@ -2,7 +2,7 @@
 ghost use Rattle.std.specs.Prelude.{◌≡◌, ◌<◌, true, length, map, IfOk, IfSome, OnOk};
 ghost use Rattle.csv.specs.Records.{fields_of};
 ghost use Rattle.nms_quote.specs.Roster.{Sizes, holds, sizes_of};
-ghost use Rattle.nms_import.specs.Mapping.{change_of, column_text, entry_of, half_state, is_one_sided, left_by, meaning_of, no_symbol, participant_of, replaced, state_of, symbol_in, unit_for, withdrawal, withdrawal_of};
+ghost use Rattle.nms_import.specs.Mapping.{change_of, column_text, entry_of, half_state, is_one_sided, lacks_side, left_by, meaning_of, no_symbol, participant_of, replaced, state_of, symbol_in, unit_for, withdrawal, withdrawal_of};
 
 use crate::cause::Cause;
 use crate::column::Columns;
@@ -10,7 +10,7 @@ use crate::entry::Entry;
 use crate::meanings::{Half, Meaning, Meanings, Replaced};
 use crate::number::side_in;
 use crate::time::time_in;
-use crate::words::{is_listed, name_of, place_said};
+use crate::words::{is_listed, lacks_side, name_of, place_said};
 use csv::ByteRecord;
 use nms_lines::field_at;
 use nms_quote::{Change, Part, QState, Roster, Side, SideQuote, Sym};
@@ -57,7 +57,8 @@ pub fn left_in(
     last: u64,
     scratch: &mut Vec<u8>,
 ) -> Result<Option<Entry>, AllocError>
-    ensures { IfOk result (λ left. left ≡ left_by columns.now meanings.now roster.now last (fields_of row.now) cause) }
+    ensures left { IfOk result (λ left. left ≡ left_by columns.now meanings.now roster.now last (fields_of row.now) cause) }
+    ensures there { IfOk result (λ left. IfSome left (λ entry. holds (sizes_of roster.now) entry.change ≡ true)) }
 {
     let sym = symbol_in(meanings, roster, columns.symbol.text(row), scratch)?;
     Ok(left_with(columns, meanings, roster, row, cause, sym, last))
@@ -74,8 +75,10 @@ pub fn left_with(
     sym: Option<Sym>,
     last: u64,
 ) -> Option<Entry>
-    ensures { sym ≡ symbol_in meanings.now roster.now (column_text columns.now.symbol (fields_of row.now))
+    ensures left { sym ≡ symbol_in meanings.now roster.now (column_text columns.now.symbol (fields_of row.now))
         → result ≡ left_by columns.now meanings.now roster.now last (fields_of row.now) cause }
+    ensures there { IfSome sym (λ place. place < length roster.now.syms)
+        → IfSome result (λ entry. holds (sizes_of roster.now) entry.change ≡ true) }
 {
     if meanings.withdraws && !cause.skips() {
         withdrawal_with(columns, meanings, roster, row, sym, last)
@@ -94,8 +97,10 @@ fn withdrawal_with(
     sym: Option<Sym>,
     last: u64,
 ) -> Option<Entry>
-    ensures { sym ≡ symbol_in meanings.now roster.now (column_text columns.now.symbol (fields_of row.now))
+    ensures withdrawal { sym ≡ symbol_in meanings.now roster.now (column_text columns.now.symbol (fields_of row.now))
         → result ≡ withdrawal_of columns.now meanings.now roster.now last (fields_of row.now) }
+    ensures there { IfSome sym (λ place. place < length roster.now.syms)
+        → IfSome result (λ entry. holds (sizes_of roster.now) entry.change ≡ true) }
 {
     let time = match time_in(meanings, columns.time.text(row)) {
         Ok(time) => time,
@@ -183,6 +188,9 @@ pub fn entry_with(
         columns.condition.text(row),
     )?;
     let state = state_of(meanings, meaning)?;
+    if lacks_side(&meanings.sides, columns.side.text(row)) {
+        return Err(Cause::UnknownSide);
+    }
     let unit = unit_for(meanings, roster, sym);
     let change = change_in(columns, meanings, unit, row, part, sym, state)?;
     Ok(Entry {

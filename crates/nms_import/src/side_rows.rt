@@ -1,10 +1,16 @@
 //! Rows of one side: `specs/SideRows`.
-ghost use Rattle.std.specs.Prelude.{◌≡◌};
-ghost use Rattle.nms_import.specs.SideRows.{agreed, both_state, content_at, content_of, half_as, no_sides, other_side, own_side, quote_after, quote_of, side_named, side_row, sides_after, unless_halted};
+ghost use Rattle.std.specs.Prelude.{◌≡◌, ◌<◌, IfSome, IsSome, is_some, length, true};
+ghost use Rattle.csv.specs.Records.{fields_of};
+ghost use Rattle.nms_quote.specs.Roster.{Listing, holds, sizes_of};
+ghost use Rattle.nms_import.specs.Imported.{entry_in, given_as, given_in, made_as, side_said};
+ghost use Rattle.nms_import.specs.SideRows.{agreed, both_state, content_at, content_of, half_as, is_mixed, other_side, own_side, quote_after, quote_of, side_row, sides_after, step_of, unless_halted};
 
 use crate::cause::Cause;
-use crate::meanings::{Half, Word};
-use crate::words::is_listed;
+use crate::column::Columns;
+use crate::entry::Entry;
+use crate::meanings::{Half, Meanings};
+use crate::words::side_in;
+use csv::ByteRecord;
 use nms_quote::{Change, Part, QState, Side, SideQuote, Sym};
 
 /// What a row of one side says.
@@ -44,7 +50,7 @@ pub struct Sides {
 
 impl Sides {
     ghost use Rattle.std.specs.Prelude.{◌≡◌};
-    ghost use Rattle.nms_import.specs.SideRows.{no_sides};
+    ghost use Rattle.nms_import.specs.SideRows.{is_half, no_sides};
 
     /// Nothing on either side.
     pub fn none() -> Sides
@@ -55,24 +61,121 @@ impl Sides {
             offer: None,
         }
     }
+
+    /// Whether only one of the sides that are shown is manual.
+    fn is_half(&self) -> bool
+        ensures { result ≡ is_half self.now.bid self.now.offer }
+    {
+        match (&self.bid, &self.offer) {
+            (Some(bid), Some(offer)) => is_mixed(bid.state, offer.state),
+            (None, _) | (Some(_), None) => false,
+        }
+    }
 }
 
-/// The side that a word names, by the words for each side.
-pub fn side_named(bids: &[Word], offers: &[Word], text: &[u8]) -> Option<Side>
-    ensures { result ≡ side_named bids.now offers.now text.now }
+/// Whether only one of two states is manual, and the other automated.
+fn is_mixed(bid: QState, offer: QState) -> bool
+    ensures { result ≡ is_mixed bid offer }
 {
-    if is_listed(bids, text) {
-        Some(Side::Bid)
-    } else if is_listed(offers, text) {
-        Some(Side::Offer)
-    } else {
-        None
+    match bid {
+        QState::Automated => offer == QState::Manual,
+        QState::Manual => offer == QState::Automated,
+        QState::Halted => false,
+    }
+}
+
+impl SideRow {
+    ghost use Rattle.std.specs.Prelude.{◌≡◌};
+    ghost use Rattle.std.specs.Prelude.{None};
+    ghost use Rattle.nms_quote.specs.declared.change.Change.TheVariants as change;
+    ghost use Rattle.nms_quote.specs.declared.side_quote.QState.TheVariants.{Automated};
+    ghost use Rattle.nms_import.specs.SideRows.{entry_at};
+
+    /// The entry of the row, if its participant then shows these sides.
+    pub fn entry(&self, sides: &Sides, change: Change) -> Entry
+        ensures { result ≡ entry_at self.now sides.now change }
+    {
+        Entry {
+            time: self.time,
+            change,
+            one_sided: sides.is_half(),
+        }
+    }
+
+    /// The withdrawal of what the row's participant shows of its symbol.
+    pub fn withdrawal(&self) -> Change
+        ensures { result ≡ change.Quote self.now.part self.now.sym Automated None None }
+    {
+        Change::Quote {
+            part: self.part,
+            sym: self.sym,
+            state: QState::Automated,
+            bid: None,
+            offer: None,
+        }
+    }
+}
+
+/// What a row of one side does.
+#[derive(Clone, Copy)]
+pub struct SideStep {
+    /// The entry of the row, or why it has none.
+    pub made: Result<Entry, Cause>,
+    /// What it leaves if it has none: a withdrawal, or nothing.
+    pub left: Option<Entry>,
+    /// What its participant then shows of its symbol.
+    pub sides: Sides,
+}
+
+/// What a row does if its participant shows these sides of its symbol. A refused row leaves nothing shown, if it withdraws.
+pub fn step_of(half: Half, withdraws: bool, sides: &Sides, row: &SideRow) -> SideStep
+    ensures made { entry_in result.made ≡ made_as row.now (sides_after sides.now row.now) (quote_after half sides.now row.now) }
+    ensures given { given_in result.made result.left ≡ given_as row.now (step_of half withdraws sides.now row.now) }
+    ensures sides { result.sides ≡ (step_of half withdraws sides.now row.now).sides }
+{
+    match quote_after(half, sides, row) {
+        Ok(change) => {
+            let after = sides_after(sides, row);
+            SideStep {
+                made: Ok(row.entry(&after, change)),
+                left: None,
+                sides: after,
+            }
+        }
+        Err(cause) if withdraws => SideStep {
+            made: Err(cause),
+            left: Some(row.entry(&Sides::none(), row.withdrawal())),
+            sides: Sides::none(),
+        },
+        Err(cause) => SideStep {
+            made: Err(cause),
+            left: None,
+            sides: *sides,
+        },
+    }
+}
+
+/// What a row says of its side, if each row has one. It was read by its columns as any other row.
+pub fn side_said(
+    columns: &Columns,
+    meanings: &Meanings,
+    row: &ByteRecord,
+    entry: &Entry,
+) -> Option<SideRow>
+    ensures said { result ≡ side_said columns.now meanings.now (fields_of row.now) entry.now }
+    ensures sided { IsSome result → is_some meanings.now.sides ≡ true }
+    ensures there { (roster : Listing) → holds (sizes_of roster) entry.now.change ≡ true → IfSome result (λ row. row.sym < length roster.syms) }
+{
+    match side_in(&meanings.sides, columns.side.text(row)) {
+        Some(side) => side_row(side, entry.time, &entry.change),
+        None => None,
     }
 }
 
 /// What a change says of a side. It is that of a row, read by columns in which the other side is empty.
 pub fn side_row(side: Side, time: u64, change: &Change) -> Option<SideRow>
-    ensures { result ≡ side_row side time change.now }
+    ensures row { result ≡ side_row side time change.now }
+    ensures there { (roster : Listing) → holds (sizes_of roster) change.now ≡ true → IfSome result (λ row. row.sym < length roster.syms) }
 {
     let Change::Quote {
         part,

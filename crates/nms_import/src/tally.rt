@@ -26,6 +26,8 @@ pub struct Tally {
     pub unknown_condition: u64,
     /// Refused: a condition that makes only one side manual.
     pub one_sided: u64,
+    /// Refused: a word for its side that the mapping does not list, if each row has one side.
+    pub unknown_side: u64,
     /// Refused: a text that is no price.
     pub bad_price: u64,
     /// Refused: a text that is no size.
@@ -71,6 +73,7 @@ impl Tally {
             unknown_symbol: 0,
             unknown_condition: 0,
             one_sided: 0,
+            unknown_side: 0,
             bad_price: 0,
             bad_size: 0,
             half_side: 0,
@@ -109,6 +112,7 @@ impl Tally {
             Cause::UnknownSymbol => self.unknown_symbol += 1,
             Cause::UnknownCondition => self.unknown_condition += 1,
             Cause::OneSided(_) => self.one_sided += 1,
+            Cause::UnknownSide => self.unknown_side += 1,
             Cause::BadPrice(_) => self.bad_price += 1,
             Cause::BadSize(_) => self.bad_size += 1,
             Cause::HalfSide(_) => self.half_side += 1,
@@ -142,6 +146,7 @@ impl Tally {
             self.unknown_symbol,
             self.unknown_condition,
             self.one_sided,
+            self.unknown_side,
             self.bad_price,
             self.bad_size,
             self.half_side,

@@ -327,6 +327,7 @@ pub fn column_of(columns: &Columns, cause: Cause) -> Option<&Column> {
         Cause::UnknownParticipant => Some(&columns.participant),
         Cause::UnknownSymbol | Cause::OtherSymbol => Some(&columns.symbol),
         Cause::UnknownCondition | Cause::OneSided(_) => Some(&columns.condition),
+        Cause::UnknownSide => Some(&columns.side),
         Cause::BadPrice(Side::Bid) | Cause::HalfSide(Side::Bid) => Some(&columns.bid),
         Cause::BadPrice(Side::Offer) | Cause::HalfSide(Side::Offer) => Some(&columns.offer),
         Cause::BadSize(Side::Bid) => Some(&columns.bid_size),
@@ -414,6 +415,7 @@ pub fn sentence_of(telling: Telling, cause: Cause) -> &'static str
         Cause::UnknownCondition => "a condition that the mapping does not list",
         Cause::OneSided(Side::Bid) => "a condition that makes the bid alone manual",
         Cause::OneSided(Side::Offer) => "a condition that makes the offer alone manual",
+        Cause::UnknownSide => "a word for the side that the mapping does not list",
         Cause::BadPrice(Side::Bid) => no_bid(telling.price_unit),
         Cause::BadPrice(Side::Offer) => no_offer(telling.price_unit),
         Cause::BadSize(Side::Bid) => "no size of the bid, or one above 999,999,999 shares",
@@ -454,7 +456,7 @@ pub fn write_tally<W: Write>(
 }
 
 /// The counts that have their own lines, each with its text.
-fn counts_of(meanings: &Meanings, tally: &Tally, left: &Left) -> [(u64, &'static str); 16]
+fn counts_of(meanings: &Meanings, tally: &Tally, left: &Left) -> [(u64, &'static str); 17]
     ensures { list_all (λ count. is_plain count.1.now) result ≡ true }
 {
     [
@@ -464,6 +466,7 @@ fn counts_of(meanings: &Meanings, tally: &Tally, left: &Left) -> [(u64, &'static
         (tally.unknown_symbol, "refused: unknown symbol"),
         (tally.unknown_condition, "refused: unknown condition"),
         (tally.one_sided, "refused: one side manual"),
+        (tally.unknown_side, "refused: unknown side"),
         (tally.bad_price, "refused: bad price"),
         (tally.bad_size, "refused: bad size"),
         (tally.half_side, "refused: shares without a price"),

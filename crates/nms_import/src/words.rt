@@ -1,9 +1,10 @@
 //! Words that a mapping lists: `specs/Mapping`.
 ghost use Rattle.std.specs.Prelude.{◌≡◌, position, option_map};
 ghost use Rattle.std.specs.Str.{bytes_eq};
-ghost use Rattle.nms_import.specs.Mapping.{is_joined, is_listed, name_of};
+ghost use Rattle.nms_import.specs.Mapping.{is_joined, is_listed, lacks_side, name_of, side_in, side_named};
 
-use crate::meanings::{Meanings, Renamed, Said, Word};
+use crate::meanings::{Meanings, Renamed, Said, SideWords, Word};
+use nms_quote::Side;
 
 /// Whether a text is one of the words.
 pub fn is_listed(words: &[Word], text: &[u8]) -> bool
@@ -16,6 +17,39 @@ fn is_word(word: &Word, text: &[u8]) -> bool
     ensures { result ≡ bytes_eq word.now.text.items text.now }
 {
     word.text.as_slice() == text
+}
+
+/// The side that a word names, by the words for each side.
+pub fn side_named(bids: &[Word], offers: &[Word], text: &[u8]) -> Option<Side>
+    ensures { result ≡ side_named bids.now offers.now text.now }
+{
+    if is_listed(bids, text) {
+        Some(Side::Bid)
+    } else if is_listed(offers, text) {
+        Some(Side::Offer)
+    } else {
+        None
+    }
+}
+
+/// The side that a row names by a text, if each row has one side.
+pub fn side_in(sides: &Option<SideWords>, text: &[u8]) -> Option<Side>
+    ensures { result ≡ side_in sides.now text.now }
+{
+    match sides {
+        Some(words) => side_named(&words.bids, &words.offers, text),
+        None => None,
+    }
+}
+
+/// Whether each row has one side, and a row's text for it names none.
+pub(crate) fn lacks_side(sides: &Option<SideWords>, text: &[u8]) -> bool
+    ensures { result ≡ lacks_side sides.now text.now }
+{
+    match sides {
+        Some(words) => side_named(&words.bids, &words.offers, text).is_none(),
+        None => false,
+    }
 }
 
 /// The name on the roster for a word of the file.

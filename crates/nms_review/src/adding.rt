@@ -59,7 +59,7 @@ fn add_of<T: Host>(
     roster: &mut Roster,
     took_all: &mut bool,
 ) -> Result<Ending, Fault> {
-    let columns = match mapping.columns(call.alloc(), &rows.names) {
+    let columns = match mapping.row_columns(call.alloc(), &rows.names) {
         Ok(columns) => columns,
         Err(fault) => return refuse_columns(call, file, &fault, &rows.names),
     };

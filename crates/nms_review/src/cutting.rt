@@ -11,7 +11,7 @@ use crate::outputs::{SHARD, check_outputs, create, flush, publish_shards, remove
 use crate::request::{Import, Path};
 use crate::vendor::{Rows, fault_in, open_vendor};
 use csv::ByteRecord;
-use nms_import::{Columns, Finding, ImportFault, Kind, MapFault, Mapping, Order, Wrong};
+use nms_import::{Finding, ImportFault, Kind, MapFault, Mapping, Order, RowColumns, Wrong};
 use nms_shards::{
     Cutting, LEAST_LIMIT, Shard, begin_shard, import_shard, write_listed, write_setup,
 };
@@ -134,7 +134,7 @@ impl<'a, T: Host> Shards<'a, T, T::File> {
         rows: &mut Rows<'_, T, T::File>,
     ) -> Result<Ending, Fault> {
         let (call, mapping) = (self.call, self.kept.mapping);
-        let columns = match mapping.columns(call.alloc(), &rows.names) {
+        let columns = match mapping.row_columns(call.alloc(), &rows.names) {
             Ok(columns) => columns,
             Err(fault) => return refuse_columns(call, file, &fault, &rows.names),
         };
@@ -148,7 +148,7 @@ impl<'a, T: Host> Shards<'a, T, T::File> {
     /// Cuts the rows of a file whose columns were found.
     fn cut_rows(
         &mut self,
-        columns: &Columns,
+        columns: &RowColumns,
         file: Path<'_>,
         rows: &mut Rows<'_, T, T::File>,
     ) -> Result<(), Fault> {

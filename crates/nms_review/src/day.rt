@@ -209,6 +209,10 @@ fn fault_of<T: Host>(
 fn trades_fault_of(fault: TradesFault, executions: About, shard: About) -> Fault {
     match fault {
         TradesFault::Times(fault) | TradesFault::Symbols(fault) => Fault::of_times(fault, shard),
-        _ => trades_fault(fault, executions),
+        TradesFault::Changes(_)
+        | TradesFault::Executions(_)
+        | TradesFault::Board(_)
+        | TradesFault::TooLong
+        | TradesFault::Show(_) => trades_fault(fault, executions),
     }
 }

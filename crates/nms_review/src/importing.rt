@@ -13,7 +13,7 @@ use crate::vendor::{Rows, fault_in, map_document, open_vendor};
 use nms_codes::Code;
 use nms_import::{
     Guard, ImportFault, Kind, Left, Mapping, Notes, Sums, Tally, Told, Work, import_rows,
-    mapping_of, write_symbols, write_tally,
+    kind_said, mapping_of, write_symbols, write_tally,
 };
 use nms_import_trades::is_of_trades;
 use nms_show::Ending;
@@ -62,7 +62,7 @@ fn import_by_map<T: Host, W: Write>(
     }
     match mapping_of(call.alloc(), &document) {
         Ok(mapping) => import_quotes(call, import, &mapping, answers),
-        Err(fault) => refuse_map(call, import.map, Kind::Quotes, &fault),
+        Err(fault) => refuse_map(call, import.map, kind_said(&document), &fault),
     }
 }
 
@@ -259,7 +259,7 @@ impl<'a, T: Host> Quotes<'a, T, T::File> {
         rows: &mut Rows<'_, T, T::File>,
     ) -> Result<Ending, Fault> {
         let (call, import, mapping) = (self.call, self.import, self.kept.mapping);
-        let columns = match mapping.columns(call.alloc(), &rows.names) {
+        let columns = match mapping.row_columns(call.alloc(), &rows.names) {
             Ok(columns) => columns,
             Err(fault) => return refuse_columns(call, file, &fault, &rows.names),
         };

@@ -4,7 +4,9 @@ ghost use Rattle.nms_shards.specs.Added.{Grown};
 
 use crate::rosters::{add_participants, usual_lot};
 use csv::{ByteRecord, Reader};
-use nms_import::{Cause, Columns, ImportFault, MOST_ROWS, Meanings, RowSource, next_row, read_row};
+use nms_import::{
+    Cause, Columns, ImportFault, MOST_ROWS, Meanings, RowColumns, RowSource, next_row, read_row,
+};
 use nms_quote::{Change, Roster, RosterFault, SideQuote, Sym, is_symbol_name};
 use std::alloc::Global;
 use std::io::Read;
@@ -35,7 +37,7 @@ fn add_whole(roster: &mut Roster, lent: &Roster) -> Result<(), RosterFault> {
 #[tactic(auto, using(crate::proofs::AddedFacts::grown_none, crate::proofs::AddedFacts::grown_more))]
 pub fn add_symbols<R: Read>(
     alloc: Global,
-    columns: &Columns,
+    columns: &RowColumns,
     meanings: &Meanings,
     roster: &mut Roster,
     reader: &mut Reader<RowSource<R>>,
@@ -49,7 +51,8 @@ pub fn add_symbols<R: Read>(
         if !next_row(reader, &mut row)? {
             return Ok(took_all);
         }
-        let took = add_of(columns, meanings, roster, &row, &mut name)?;
+        let own = columns.of_row(meanings, &row);
+        let took = add_of(own, meanings, roster, &row, &mut name)?;
         took_all = took && took_all;
     }
     Err(ImportFault::TooLong)

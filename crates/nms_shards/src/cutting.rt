@@ -10,7 +10,10 @@ use crate::rosters::{bare_roster, lot_lent, own_roster};
 use csv::ByteRecord;
 use nms_board::Boards;
 use nms_fees::Setup;
-use nms_import::{Cause, Columns, Entry, ImportFault, Meanings, entry_with, left_with, symbol_in};
+use nms_import::{
+    Cause, Columns, Entry, ImportFault, KeptSides, Meanings, Sides, entry_with, left_with,
+    side_said, step_of, symbol_in,
+};
 use nms_lines::name_of_sym;
 use nms_opening::{OpeningChanges, opening_of, reopened};
 use nms_quote::{Change, MOST_SYMBOLS, Roster, Sym, is_symbol_name};
@@ -66,6 +69,10 @@ pub struct Cutting {
     time: u64,
     number: u64,
     cut: Option<u64>,
+    /// What each participant shows of the current symbol, as rows of one side have said.
+    kept: KeptSides,
+    /// What the participant of the last row shows, once its change is taken.
+    sides: Sides,
     scratch: Vec<u8>,
 }
 
@@ -107,6 +114,8 @@ impl Cutting {
                 time: 0,
                 number: 0,
                 cut: None,
+                kept: KeptSides::new(alloc),
+                sides: Sides::none(),
                 scratch: Vec::new(alloc),
             }),
             Err(fault) => Err(fault),
@@ -157,16 +166,47 @@ impl Cutting {
     ) -> Result<Said, ImportFault>
         ensures stays { self.new ≡ self.old }
     {
+        self.sides = Sides::none();
         let text = columns.symbol.text(row);
         match symbol_in(meanings, &self.own, text, &mut self.scratch)? {
             Some(sym) => {
                 match entry_with(columns, meanings, &self.own, row, Some(sym)) {
-                    Ok(entry) => Ok(Said::More(entry, None)),
+                    Ok(entry) => self.said_of(columns, meanings, row, entry, false),
                     Err(cause) => Ok(self.left_more(columns, meanings, row, cause, sym)),
                 }
             }
             None => self.read_other(columns, meanings, lent, row),
         }
+    }
+
+    /// What a row makes that was read as this entry, of the current symbol or the first of another one. A row of one side gives
+    /// the quotation of both.
+    fn said_of(
+        &mut self,
+        columns: &Columns,
+        meanings: &Meanings,
+        row: &ByteRecord,
+        entry: Entry,
+        begins: bool,
+    ) -> Result<Said, ImportFault>
+        ensures stays { self.new ≡ self.old }
+    {
+        let Some(said) = side_said(columns, meanings, row, &entry) else {
+            return Ok(given(begins, entry, None));
+        };
+        self.kept.make_room(1)?;
+        let shown = if begins {
+            Sides::none()
+        } else {
+            self.kept.get(said.part, said.sym)
+        };
+        let step = step_of(meanings.half, meanings.withdraws, &shown, &said);
+        self.sides = step.sides;
+        Ok(match (step.made, step.left) {
+            (Ok(entry), _) => given(begins, entry, None),
+            (Err(cause), Some(left)) => given(begins, left, Some(cause)),
+            (Err(cause), None) => Said::Nothing(cause),
+        })
     }
 
     /// What a row of another symbol makes. Its name is in `scratch`.
@@ -192,7 +232,7 @@ impl Cutting {
         match entry_with(columns, meanings, &self.next, row, sym) {
             Ok(_) if is_over => Ok(Said::Returned),
             Err(cause) if is_over => Ok(Said::Nothing(cause)),
-            Ok(entry) => Ok(Said::Begins(entry, None)),
+            Ok(entry) => self.said_of(columns, meanings, row, entry, true),
             Err(cause) => Ok(self.left_first(columns, meanings, row, cause)),
         }
     }
@@ -268,6 +308,7 @@ impl Cutting {
         if !self.begun.add(name_of_sym(&self.next, first_sym())) {
             return Err(ImportFault::NoMemory);
         }
+        self.kept.clear()?;
         let board = new_board(self.alloc, &self.next)?;
         mem::swap(&mut self.own, &mut self.next);
         self.board = board;
@@ -295,6 +336,9 @@ impl Cutting {
         self.count += 1;
         self.time = entry.time;
         self.number = number;
+        if let Change::Quote { part, .. } = entry.change {
+            self.kept.put(part, first_sym(), self.sides);
+        }
         if self.board.takes(&entry.change) {
             self.board.apply(entry.change);
         }
@@ -334,6 +378,15 @@ impl Cutting {
     /// The row that made the last change, and its time.
     pub(crate) fn last_change(&self) -> (u64, u64) {
         (self.number, self.time)
+    }
+}
+
+/// What gives a change: a row of the current symbol, or the first of another one.
+fn given(begins: bool, entry: Entry, cause: Option<Cause>) -> Said {
+    if begins {
+        Said::Begins(entry, cause)
+    } else {
+        Said::More(entry, cause)
     }
 }
 

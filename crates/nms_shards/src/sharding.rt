@@ -11,8 +11,8 @@ use crate::cutting::{Cutting, Said};
 use csv::{ByteRecord, Reader};
 use nms_change_text::append_changes;
 use nms_import::{
-    Cause, Columns, Entry, ImportFault, MOST_ROWS, Meanings, Notes, RowSource, Tally, Told,
-    append_line, give, line_of, next_row, note_cause, write_entry,
+    Cause, Columns, Entry, ImportFault, MOST_ROWS, Meanings, Notes, RowColumns, RowSource, Tally,
+    Told, append_line, give, line_of, next_row, note_cause, write_entry,
 };
 use nms_quote::{Change, Roster};
 use std::alloc::AllocError;
@@ -28,12 +28,12 @@ pub enum Shard {
 }
 
 /// Imports the rows that a reader still has until the shard is full. If `waits` is set, the current row comes first. Changes
-/// are written with their times, in order, and every outcome is counted. As in a plain import, a refused row withdraws what its
-/// participant showed, unless the mapping keeps it.
+/// are written with their times, in order, and every outcome is counted. As in a plain import, a row of one side gives the
+/// quotation of both, and a refused row withdraws what its participant showed, unless the mapping keeps it.
 ///
 /// After an error a prefix of both texts was written. The writers are not flushed.
 pub fn import_shard<R: Read, C: Write, T: Write, E: Write>(
-    columns: &Columns,
+    columns: &RowColumns,
     meanings: &Meanings,
     lent: &Roster,
     numbers: bool,
@@ -109,7 +109,7 @@ fn fetch_row<R: Read>(
 
 /// Imports the current row, which has this number. Returns whether the shard took it.
 fn import_row<C: Write, T: Write, E: Write>(
-    columns: &Columns,
+    columns: &RowColumns,
     meanings: &Meanings,
     lent: &Roster,
     numbers: bool,
@@ -130,6 +130,7 @@ fn import_row<C: Write, T: Write, E: Write>(
     ensures opened { OnOk result (cutting.new.opened ≡ cutting.old.opened) }
     ensures limit { OnOk result (cutting.new.limit ≡ cutting.old.limit) }
 {
+    let columns = columns.of_row(meanings, row);
     match cutting.read(columns, meanings, lent, row)? {
         Said::Nothing(cause) => {
             tally.count_cause(cause);
@@ -178,6 +179,7 @@ fn tell_cause<E: Write>(columns: &Columns, row: &ByteRecord, cause: Cause, told:
         | Cause::UnknownParticipant
         | Cause::UnknownCondition
         | Cause::OneSided(_)
+        | Cause::UnknownSide
         | Cause::BadPrice(_)
         | Cause::BadSize(_)
         | Cause::HalfSide(_)

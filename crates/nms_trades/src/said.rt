@@ -50,7 +50,18 @@ impl Said {
     {
         match fault {
             TradeFault::UnknownSymbol => Said::Unknown,
-            _ => Said::Refused(fault),
+            TradeFault::UnknownKind
+            | TradeFault::FieldCount
+            | TradeFault::BadName
+            | TradeFault::BadPrice
+            | TradeFault::BadShares
+            | TradeFault::BadSide
+            | TradeFault::BadVersion
+            | TradeFault::Beyond
+            | TradeFault::UnknownParticipant
+            | TradeFault::BadFlags
+            | TradeFault::NoTimes
+            | TradeFault::NoChanges => Said::Refused(fault),
         }
     }
 

@@ -3,16 +3,18 @@ ghost use Rattle.std.specs.Prelude.{◌≡◌};
 ghost use Rattle.toml.specs.View.{table_view};
 ghost use Rattle.nms_explain_toml.specs.Kinds.{has_column, has_other_kind, kind_of};
 
-use nms_import::{Draft, Kind};
+use nms_import::{Draft, Kind, kind_said};
 use nms_import_trades::is_of_trades;
 use toml::Table;
 
-/// The kind of the mapping of a document. It is of trades if the document says so, or has their price and another kind than
-/// quotes. It is of national bests if it has one of their columns.
+/// The kind of the mapping of a document. It is of sides if the document says so, and of trades if it says so, or has their price
+/// and another kind than quotes. It is of national bests if it has one of their columns.
 pub(crate) fn kind_of(document: &Table) -> Kind
     ensures { result ≡ kind_of (table_view document.now) }
 {
-    if is_of_trades(document) || has_other_kind(document) && has_column(document, "price") {
+    if kind_said(document) == Kind::Sides {
+        Kind::Sides
+    } else if is_of_trades(document) || has_other_kind(document) && has_column(document, "price") {
         Kind::Trades
     } else if has_column(document, "bid_participant")
         || has_column(document, "offer_participant")

@@ -12,4 +12,8 @@ returns c = record {
   ask_is_offer = refl;
   ask_and_offer = refl;
   a_letter_in_two_lists = refl;
+  sides_are_said = refl;
+  rows_of_one_side = refl;
+  a_column_of_both_sides = refl;
+  a_word_for_both_sides = refl;
 }
