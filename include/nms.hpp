@@ -88,7 +88,7 @@ inline void must(std::uint32_t code)
         throw Error(code);
 }
 
-// The version of the library, such as 0.2.0.
+// The version of the library, such as 0.3.0.
 inline std::string version()
 {
     char text[NMS_CODE_TEXT_ROOM];

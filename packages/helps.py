@@ -264,7 +264,7 @@ def made(folder, version, date):
 
 
 def version(folder, program):
-    """The version that a program prints, as `nms_tool 0.2.0`, perhaps with more after it."""
+    """The version that a program prints, as `nms_tool 0.3.0`, perhaps with more after it."""
     said = printed(folder, program, "--version")
     found = re.match(rf"{program} (\d+\.\d+\.\d+)\b", said)
     return found[1] if found else sys.exit(f"helps.py: {program} --version printed {said!r}")

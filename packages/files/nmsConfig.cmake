@@ -1,4 +1,4 @@
-# find_package(nms 0.2) gives nms::nms (libnms.so) and nms::static (libnms.a). The installation may be moved.
+# find_package(nms 0.3) gives nms::nms (libnms.so) and nms::static (libnms.a). The installation may be moved.
 get_filename_component(_nms_prefix "${CMAKE_CURRENT_LIST_DIR}/../../.." ABSOLUTE)
 if(NOT TARGET nms::nms)
   add_library(nms::nms SHARED IMPORTED)

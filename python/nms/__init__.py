@@ -270,7 +270,7 @@ def _bytes(field: str, value: str) -> bytes:
 
 
 def version() -> str:
-    """The version of the library, such as 0.2.0."""
+    """The version of the library, such as 0.3.0."""
     text, size = ctypes.create_string_buffer(128), c_size_t()
     _must(_LIBRARY.nms_raw_version(text, len(text), byref(size)))
     return text.raw[:size.value].decode()

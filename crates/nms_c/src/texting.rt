@@ -20,8 +20,8 @@ use std::alloc::Global;
 /// Writes the version of the library.
 #[unsafe(no_mangle)]
 pub extern "C" fn nms_raw_version(out: &mut [u8], bytes: &mut usize) -> u32
-    ensures answer { result ≡ answer_of (text_fault (codes "0.2.0") out.old) }
-    ensures written { result ≡ 0 → IsWritten (codes "0.2.0") out.old out.new bytes.new }
+    ensures answer { result ≡ answer_of (text_fault (codes "0.3.0") out.old) }
+    ensures written { result ≡ 0 → IsWritten (codes "0.3.0") out.old out.new bytes.new }
     ensures unwritten { result ≢ 0 → (out.new ≡ out.old) × (bytes.new ≡ bytes.old) }
 {
     answer(put_version(out, bytes))

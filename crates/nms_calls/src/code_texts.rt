@@ -11,11 +11,11 @@ use nms_lines::LineFault;
 
 /// Writes the version of the library.
 pub fn put_version(out: &mut [u8], bytes: &mut usize) -> Result<(), CallFault>
-    ensures answer { result_err result ≡ text_fault (codes "0.2.0") out.old }
-    ensures written { OnOk result (IsWritten (codes "0.2.0") out.old out.new bytes.new) }
+    ensures answer { result_err result ≡ text_fault (codes "0.3.0") out.old }
+    ensures written { OnOk result (IsWritten (codes "0.3.0") out.old out.new bytes.new) }
     ensures unwritten { OnErr result ((out.new ≡ out.old) × (bytes.new ≡ bytes.old)) }
 {
-    put_text("0.2.0".as_bytes(), out, bytes)
+    put_text("0.3.0".as_bytes(), out, bytes)
 }
 
 /// Writes what a code means. `NoRow` if no call answers with it.

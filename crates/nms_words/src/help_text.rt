@@ -1,7 +1,7 @@
 //! The text of the help after the commands and options: the statuses, and a line for each refusal.
 
 /// The version that `--version` reports.
-pub(crate) const VERSION: &str = "0.2.0";
+pub(crate) const VERSION: &str = "0.3.0";
 
 /// The end of the help. An installed program has no `docs/ERRORS.md` next to it, so each code of a refusal is explained here.
 /// That page says what to do about it.

@@ -8,7 +8,7 @@
 use core::ffi::c_void;
 use core::mem::{offset_of, size_of};
 
-pub const NMS_VERSION: &str = "0.2.0";
+pub const NMS_VERSION: &str = "0.3.0";
 pub const NMS_ABI: u32 = 2;
 pub const NMS_MOST_PARTS: usize = 32;
 pub const NMS_MOST_SYMS: usize = 1000;

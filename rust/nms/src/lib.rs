@@ -120,7 +120,7 @@ fn must(code: u32) -> Result<()> {
     if code == sys::NMS_OK { Ok(()) } else { Err(Error::of(code)) }
 }
 
-/// The version of the library, such as 0.2.0.
+/// The version of the library, such as 0.3.0.
 pub fn version() -> Result<String> {
     let (mut text, mut bytes) = ([0; sys::NMS_CODE_TEXT_ROOM], 0);
     // SAFETY: the buffer and the length are ours, and live through the call.

@@ -1,7 +1,7 @@
 //! What the help says after the subcommands.
 
 /// The version that `--version` reports.
-pub(crate) const VERSION: &str = "0.2.0";
+pub(crate) const VERSION: &str = "0.3.0";
 
 pub(crate) const ABOUT: &str =
     "Explains what the quote board's program refused, answered and planned";

@@ -1,7 +1,7 @@
 //! The texts of the help before and after the options.
 
 /// The version that `--version` prints.
-pub(crate) const VERSION: &str = "0.2.0";
+pub(crate) const VERSION: &str = "0.3.0";
 
 pub(crate) const ABOUT: &str =
     "Serves the quote board: reads feeds as they come, and answers requests as they come";
