@@ -48,19 +48,19 @@
  *   caller who shares a view while another thread writes it has to see to it that it reads a whole one. What a torn copy mostly
  *   shows is answered NMS_NO_VIEW: numbers that no look shows.
  *
- * WHAT A LOOK COPIES
- *   The library's function takes its right to read the board out of the handle that it is given, and puts it back before it
- *   returns. So a look gives it a copy of the handle's 16 bytes, on the stack. The caller's handle stays as it is, and the copy
- *   ends with the look. What is proved of a look is that it answers as its clauses say with a share of the right to read the
- *   board, of which there may be any number; whoever holds one may not write. C has to keep the rest: until every look has
- *   returned, no other call runs on the board. The same holds for terms.
- *
  * NULL POINTERS
  *   The calls below are inline functions. Each tests its pointers, answers NMS_NULL (18) if one is null, and then calls the
  *   function of the library, which has the same name with `nms_raw_` in place of `nms_` and the same arguments. A text of 0
  *   bytes and an array of 0 changes, which a call only reads, may have a null pointer. C and C++ call the inline functions.
  *   A language that can't read this header calls nms_raw_*. It passes no null pointer, compares nms_abi() with NMS_ABI once,
  *   and gives each look, and each call on terms, a copy of the handle, or an exclusive lock.
+ *
+ * WHAT A LOOK COPIES, FOR OTHER LANGUAGES
+ *   The library's function takes its right to read the board out of the handle that it is given, and puts it back before it
+ *   returns. So a look gives it a copy of the handle's 16 bytes, on the stack. The caller's handle stays as it is, and the copy
+ *   ends with the look. What is proved of a look is that it answers as its clauses say with a share of the right to read the
+ *   board, of which there may be any number; whoever holds one may not write. C has to keep the rest: until every look has
+ *   returned, no other call runs on the board. The same holds for terms.
  *
  * WHAT NO CALL CAN SEE
  *   A pointer that is not null has to point at a whole struct of its type, or at as many bytes or elements as the caller
@@ -82,7 +82,7 @@ extern "C" {
  * compare it with nms_abi(). */
 #define NMS_ABI 2
 /* The version of the product that this header came with. nms_version writes that of the library. */
-#define NMS_VERSION "0.2.0"
+#define NMS_VERSION "0.3.0"
 
 #define NMS_MOST_PARTS 32    /* participants of a setup, and rows of a side */
 #define NMS_MOST_SYMS 1000   /* symbols of a setup */
@@ -383,7 +383,7 @@ static inline const void *nms_from(const void *at)
     return at ? at : &nothing;
 }
 
-/* Writes the version of the library, as "0.2.0", with a closing zero. *bytes is its length without the zero.
+/* Writes the version of the library, as "0.3.0", with a closing zero. *bytes is its length without the zero.
  * Codes: NMS_ROOM. */
 static inline uint32_t nms_version(char *out, size_t room, size_t *bytes)
 {

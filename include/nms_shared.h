@@ -9,9 +9,11 @@
  *   calls on views refuse what is no view, and plan on the rest.
  *
  * WHAT A READER SEES
- *   nms_shared_version is how many changes were published. If the writer publishes by nms_shared_put_change, the view of a
- *   symbol shows what the board shows at every version from the view's own up to that one, read before the view. From 9,990,000
- *   changes on that holds of rows, ranks and plans, but receipts may have begun anew (nms.h, HOW MANY CHANGES).
+ *   nms_shared_version is how many changes were published. Read it first, and then the view. If the writer publishes by
+ *   nms_shared_put_change, the view shows the board at each version from its own up to that one. From 9,990,000 changes on that
+ *   holds for rows, ranks and plans, but receipts may have started again (nms.h, HOW MANY CHANGES).
+ *   Before a symbol is published for the first time, nms_shared_get answers NMS_NO_VIEW. So publish each symbol once at first, by
+ *   nms_shared_put, which does not raise the version. A new board needs memory that is opened again: its versions begin at 0.
  *
  * This header is not proved: it is trusted, and tested by threads under a checker of races. It needs the builtins `__atomic_*` of
  * GCC or Clang, in C and in C++.
@@ -116,7 +118,8 @@ static inline uint32_t nms_shared_put(nms_shared *shared, const nms_view *view)
 }
 
 /* Publishes what the board shows of each symbol that a change concerns: the change's own, or all for a withdrawal; and then the
- * board's version. The writer calls it after each change that the board took. Codes: those of nms_view_of and nms_shared_put. */
+ * board's version. The writer calls it after each change that the board took. Of the change only `kind` and `sym` are read.
+ * `symbols` of nms_shared_open are those of the board. Codes: those of nms_view_of and nms_shared_put. */
 static inline uint32_t nms_shared_put_change(nms_shared *shared, const nms_board *board, const nms_change *change)
 {
     if (!shared || !board || !change) {

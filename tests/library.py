@@ -306,6 +306,9 @@ class Library:
             words = [self.cxx, "-std=c++17", *WARNINGS, "-pedantic", "-I", f"{TOP}/include", f"{TOP}/examples/cpp/router.cpp", self.archive]
             if built("examples/cpp/router.cpp is built", [*words, "-o", f"{self.room}/router"]):
                 prints("the caller in C++", [f"{self.room}/router", setup], "examples/cpp/router.out", "examples/cpp/day.feed")
+            words = [it.replace("router.cpp", "threads.cpp") for it in words]
+            if built("examples/cpp/threads.cpp is built", [*words, "-pthread", "-o", f"{self.room}/desks"]):
+                prints("the caller with threads", [f"{self.room}/desks", setup], "examples/cpp/threads.out")
         self.rust(setup)
         prints("the caller in Python", [sys.executable, "examples/python/worked.py", setup], "examples/python/worked.out", None, self.python())
         prints("a child process", [sys.executable, "examples/python/child.py", program], "examples/python/child.out")

@@ -39,13 +39,22 @@ std::vector<std::string> fields_of(const std::string &line)
     return fields;
 }
 
+// The number that 1 to `most` digits say. Any other text is refused with a code.
+std::uint64_t number_of(const std::string &text, std::size_t most, std::uint32_t code)
+{
+    if (text.empty() || text.size() > most || text.find_first_not_of("0123456789") != std::string::npos)
+        throw nms::Error(code);
+    return std::stoull(text);
+}
+
 // A price of at most four decimals, in 1/10,000 dollar.
 std::uint64_t price_of(const std::string &text)
 {
     const auto point = text.find('.');
-    std::string decimals = point == std::string::npos ? "" : text.substr(point + 1);
+    std::string decimals = point == std::string::npos ? "0" : text.substr(point + 1);
+    number_of(decimals, 4, NMS_L6_BAD_PRICE);
     decimals.resize(4, '0');
-    return std::stoull(text.substr(0, point)) * 10000 + std::stoull(decimals);
+    return number_of(text.substr(0, point), 7, NMS_L6_BAD_PRICE) * 10000 + std::stoull(decimals);
 }
 
 std::string dollars(std::uint64_t price)
@@ -92,14 +101,18 @@ public:
 private:
     void route(const std::vector<std::string> &fields)
     {
+        if (fields.size() != 6 && fields.size() != 7)
+            throw nms::Error(NMS_L2_FIELD_COUNT);
+        if (fields[2] != "B" && fields[2] != "S")
+            throw nms::Error(NMS_L5_BAD_STATE);
         nms_order order{};
-        const std::string id = fields.at(1);
-        order.side = fields.at(2) == "B" ? NMS_BUY : NMS_SELL;
-        order.sym = board_.sym(fields.at(3));
-        order.shares = static_cast<std::uint32_t>(std::stoul(fields.at(4)));
-        order.limit = price_of(fields.at(5));
+        const std::string id = fields[1];
+        order.side = fields[2] == "B" ? NMS_BUY : NMS_SELL;
+        order.sym = board_.sym(fields[3]);
+        order.shares = static_cast<std::uint32_t>(number_of(fields[4], 9, NMS_L7_BAD_SHARES));
+        order.limit = price_of(fields[5]);
         if (fields.size() > 6)
-            order.self_help = 1u << board_.part(fields.at(6));
+            order.self_help = 1u << board_.part(fields[6]);
 
         const nms_plan plan = board_.plan(order);
         // No child order leaves before the checker has confirmed the plan: it trusts nothing of the planner.
@@ -108,7 +121,7 @@ private:
             return;
         }
         std::printf("ORDER %s %s %u %s at %s: %u filled on version %llu\n", id.c_str(), order.side == NMS_BUY ? "buys" : "sells",
-                    order.shares, fields.at(3).c_str(), dollars(order.limit).c_str(), plan.filled,
+                    order.shares, fields[3].c_str(), dollars(order.limit).c_str(), plan.filled,
                     static_cast<unsigned long long>(plan.version));
         for (std::uint32_t leg = 0; leg < plan.legs; ++leg)
             std::printf("  CHILD %s.%u to %s: %u at %s, intermarket sweep\n", id.c_str(), leg + 1,
@@ -131,6 +144,10 @@ int main(int count, char **words)
         return 2;
     }
     std::ifstream file(words[1], std::ios::binary);
+    if (!file) {
+        std::fprintf(stderr, "router: no file %s\n", words[1]);
+        return 2;
+    }
     const std::string setup((std::istreambuf_iterator<char>(file)), std::istreambuf_iterator<char>());
     try {
         Router router(setup);
@@ -140,7 +157,7 @@ int main(int count, char **words)
             try {
                 router.take(line);
             } catch (const nms::Error &fault) {
-                // A refused record leaves the board as it was, so the feed goes on.
+                // A refused record or order leaves the board as it was, so the feed goes on.
                 std::printf("LINE %u is refused: code %u\n", number, fault.code());
             }
         }
