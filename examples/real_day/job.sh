@@ -48,8 +48,10 @@ for setup in "$it".[0-9]*.toml; do
     shard=${setup%.toml}
     [ -s "$shard.symbols" ] || continue
     "$program" stream "$shard.changes" --setup "$setup" --times "$shard.times" |
-        awk -F, -v shard="${shard##*/}" -v opened="$(sed -n 's/^# opening changes: //p' "$setup")" '
-            NR > 1 && $1 > opened { print $NF "," shard "," substr($0, 1, length($0) - length($NF) - 1) }'
+        awk -F, -v shard=",${shard##*/}," -v opened="$(sed -n 's/^# opening changes: //p' "$setup")" '
+            # A time has 15 digits. To split a line into fields costs most here, so only lines up to the first one wanted are split.
+            !begun { begun = NR > 1 && $1 > opened }
+            begun { at = length($0) - 14; print substr($0, at) shard substr($0, 1, at - 2) }'
 done | sort -t, -k1,1 -k2,2 -k3,3n > "$it.day"
 echo "$of" > "$it.of"
 # No rename puts a folder in the place of one that has files.
