@@ -28,6 +28,8 @@ PAGE_TEXT = "crates/nms_drawing/src/page_text.rt"
 
 # Lines and words of the front page, and words of a sentence there.
 MOST_LINES, MOST_FRONT, MOST_WORDS = 130, 900, 25
+# Words of all pages, with what they show of files and answers.
+MOST_PAGES = 36_000
 # How often a word of this repository's own dialect may be in all pages together, and in all comments of the crates.
 MOST_DIALECT = 5
 # Columns of a definition or a proof.
@@ -374,7 +376,7 @@ def words_of(text):
 
 
 def check_front():
-    """README.md is short; its sentences are; its example is that of examples/. The blocks of CALLING.md with no language are files there."""
+    """README.md is short, and all pages together; its sentences are; its example is that of examples/. The blocks of CALLING.md with no language are files there."""
     page = "README.md"
     lines = read(page).count("\n")
     check(lines <= MOST_LINES, page, f"{lines} lines, and at most {MOST_LINES} are wanted")
@@ -386,6 +388,8 @@ def check_front():
     for sentence in sentences(prose(page)):
         count = len(re.findall(r"[\w`][\w`.,:/()'-]*", sentence))
         check(count <= MOST_WORDS, page, f"a sentence of {count} words: {sentence[:60]}..")
+    words = sum(len(words_of(read(it))) for it in PAGES)
+    check(words <= MOST_PAGES, "docs/", f"{words} words in all pages, and at most {MOST_PAGES} are wanted")
     shown = {read(it) for it in FILES if it.startswith("examples/") and not it.endswith((".md", ".py"))}
     for page in (page, "docs/CALLING.md"):
         for language, text in blocks(page):

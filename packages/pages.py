@@ -20,7 +20,7 @@ EDITS = (
     ("README.md", r"^\| To prove \|.*\n", ""),
     ("README.md", r"; for `\./gate quick` `python3`", ""),
     ("README.md", r" \(first build on four processors, disk\)| \(\d+[\d a-z]* minutes, [\d.]+ GB\)", ""),
-    ("README.md", r"^For a first look, .*--unproved.*\n\n", ""),
+    ("README.md", r"^`\./nms_tool --unproved` .*\n\n", ""),
     ("README.md", r"^\| take the code over \|.*\n", ""),
     ("README.md", r"`\./nms_lib`, then `[^`]*`", "`gcc YOURS.c $(pkg-config --cflags --libs nms)`"),
     ("docs/CALLING.md", r"(?<=^## The library\n\n)    \./nms_lib\n\n.*\n",
