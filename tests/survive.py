@@ -217,7 +217,7 @@ class Day:
         self.setup, self.tape = self.room.write("setup.toml", self.drawn.setup()), self.room.path("tape")
         with open(self.setup, "rb") as file:
             self.lots = {it["name"]: it["lot"] for it in tomllib.load(file)["symbol"]}
-        self.streams, self.runs, self.killed = [], [], 0
+        self.streams, self.runs, self.killed, self.cut = [], [], 0, {}
 
     def words(self, number):
         """The words of a run, with threads that feed and ask, and what ends them."""
@@ -322,7 +322,11 @@ class Day:
             if not re.fullmatch(r"tape(\.\d+)?(\.times|\.published)?|record|answers\d+\.\d+", name) or not os.path.isfile(self.room.path(name)):
                 continue
             text = bytes_of(self.room.path(name))
-            is_whole = text == b"" or text.endswith(b"\n") or not is_clean and len(text) % 4096 == 0
+            is_whole = text == b"" or text.endswith(b"\n")
+            if not is_whole and not is_clean and len(text) % 4096 == 0:
+                self.cut[name] = len(text)
+            # What KILL has cut of a router's answers stays so in all later runs.
+            is_whole |= self.cut.get(name) == len(text) and (not is_clean or name.startswith("answers"))
             good &= check(f"{what}: {name} has whole lines", is_whole, (len(text), text[-99:]))
         good &= has_times(what, self.tape, is_clean)
         for name in ("status", "ready"):
