@@ -50,8 +50,8 @@ class Layout:
     edits: list = field(default_factory=list)
     fixed: dict = field(default_factory=dict)
     form: str = "HHMMSSn"
-    # The seconds that times are moved on, None if they are moved to New York's time.
-    zone: int | None = 0
+    # The seconds that times are moved on, None if they are moved to New York's time, UNSAID if the mapping says no zone.
+    zone: int | None = -1
     # Whether bits of the column `flags` say which rows are skipped, and which are no quotations that are read.
     bits: bool = False
     unit: str = "dollars"
@@ -61,6 +61,8 @@ class Layout:
     names_of: dict = field(default_factory=dict)
     same: bool = True
     half: str = "refuse"
+    # The day since 1970 on which most rows are, if dates are compared.
+    day: int | None = None
     # Whether a refused row withdraws what its participant showed.
     withdraws: bool = True
     states: bool = True
@@ -186,13 +188,14 @@ def side_of(layout, price, size, lot):
 def zoned(layout, nanos):
     """Nanoseconds since 1970, or after a midnight, as a time of day of 15 digits in the layout's zone; None if it has none."""
     if layout.zone is not None:
-        return clock((nanos + layout.zone * 10 ** 9) % (86400 * 10 ** 9))
+        return clock((nanos + max(0, layout.zone) * 10 ** 9) % (86400 * 10 ** 9))
     second, nano = divmod(nanos, 10 ** 9)
     if not COVERED[0] <= second < COVERED[1]:
         return None
     return datetime.fromtimestamp(second, NEW_YORK).strftime("%H%M%S") + f"{nano:09}"
 
 
+UNSAID = -1
 NEW_YORK = ZoneInfo("America/New_York")
 # The seconds since 1970 whose time in New York is read: those of 2007 to 2099.
 COVERED = [int(datetime(year, 1, 1, tzinfo=timezone.utc).timestamp()) for year in (2007, 2100)]
@@ -220,7 +223,7 @@ def time_of(layout, text):
         return text if int(text[:2]) < 24 and int(text[2:4]) < 60 and int(text[4:6]) < 60 else None
     if layout.form in SINCE_1970:
         most, unit = SINCE_1970[layout.form]
-        return zoned(layout, int(text) * unit) if re.fullmatch("[0-9]{1,%d}" % most, text) else None
+        return zoned(layout, int(text) * unit) if layout.zone != UNSAID and re.fullmatch("[0-9]{1,%d}" % most, text) else None
     if layout.form == "seconds":
         found = re.fullmatch(r"([0-9]{1,5})(?:\.([0-9]{1,9}))?", text)
         if not found or int(found[1]) >= 86400:
@@ -230,6 +233,8 @@ def time_of(layout, text):
     found = re.fullmatch(day + r"([0-9]{2}):([0-9]{2}):([0-9]{2})(?:\.([0-9]{1,9}))?" + zone, text)
     if not found or int(found[1]) > 23 or int(found[2]) > 59 or int(found[3]) > 59:
         return None
+    if zone and layout.zone == UNSAID and (found[5] or text.endswith("Z")):
+        return None
     second = int(found[1]) * 3600 + int(found[2]) * 60 + int(found[3])
     if zone and found[5]:
         if int(found[6]) > 23 or int(found[7]) > 59:
@@ -237,6 +242,23 @@ def time_of(layout, text):
         second -= int(found[5] + "1") * (int(found[6]) * 3600 + int(found[7]) * 60)
     midnight = midnight_of(text[:10]) if day and layout.zone is None else 0
     return None if midnight is None else zoned(layout, midnight + second * 10 ** 9 + int((found[4] or "").ljust(9, "0")))
+
+
+def day_of(layout, text):
+    """The date of a time that is read, by the clock of the layout's zone; None if it has none of the years 2007 to 2099."""
+    if layout.form in SINCE_1970:
+        second = int(text) * SINCE_1970[layout.form][1] // 10 ** 9
+    else:
+        midnight = midnight_of(text[:10]) if layout.form == "iso" else None
+        if midnight is None:
+            return None
+        clock, sign, offset = re.fullmatch(r".{11}(.{8})[0-9.]*(?:Z|([+-])(.+))?", text).groups()
+        hours, minutes = (offset[:2], offset[-2:]) if sign else (0, 0)
+        local = sum(int(part) * unit for part, unit in zip(clock.split(":"), (3600, 60, 1)))
+        second = midnight // 10 ** 9 + local - (1 if sign == "+" else -1) * (int(hours) * 3600 + int(minutes) * 60)
+    if layout.zone is None:
+        return datetime.fromtimestamp(second, NEW_YORK).date()
+    return (second + (0 if layout.zone == UNSAID else layout.zone)) // 86400
 
 
 def has_bits(text, bits):
@@ -352,6 +374,8 @@ def random_time(layout, dice):
              "120000", "2024-01-02 12:00:00", "12:00:00-05:00", "23:59:59.999999999"]
     day = f"{date(1970, 1, 1) + timedelta(random_day(layout, dice))}{dice.choice('T ')}"
     zone = dice.choice(["", "Z", "+00:00", "-05:00", "-0500", "+05:30", "-23:59", "+2359"])
+    if layout.zone == UNSAID and dice.randrange(4):
+        zone = ""
     return f"{day}{':'.join(parts)}{point}{zone}", \
         ["", day + "24:00:00", day + "12:60:00", day + "12:00:60Z", day + "12:00", day + "12:00:00.", day + "12:00:00.Z", day + "1a:00:00",
          day + "12:00:00.1234567890", day + "12:00:00ZZ", day + "12:00:00+24:00", day + "12:00:00-00:60", day + "12:00:00+00", day + "12:00:00+00:0",
@@ -364,7 +388,10 @@ def random_time(layout, dice):
 
 
 def random_day(layout, dice):
-    """A day since 1970; for New York mostly one of those that are read, and often one near a change of the clock."""
+    """A day since 1970: mostly that of the layout, if it has one, or the next. For New York mostly one of those that are read, and
+    often one near a change of the clock."""
+    if layout.day is not None and dice.randrange(50):
+        return layout.day + dice.randrange(2)
     if layout.zone is not None or dice.randrange(20) == 0:
         return dice.randrange(20000)
     if dice.randrange(2):
@@ -691,7 +718,8 @@ FLAGS = {"C": "CNR", "O": "O56", "I": "F", "J": "", "K": "4BW", "P": "1", "Q": "
 REASONS = "COIJKPQ"
 NOTHING, NO_TRADE = "@ ADEHIKSVXY8", "MQ9"
 TRADE_CAUSES = ("too few columns", "bad name", "bad time", "unknown participant", "unknown symbol", "bad price", "bad shares", "unknown side",
-                "unknown condition", "unknown mark", "unknown word", "last line of a file", "word to skip", "no trade", "other symbol")
+                "unknown condition", "unknown mark", "unknown word", "another day", "last line of a file", "word to skip", "no trade",
+                "other symbol")
 TRADES = [
     Layout("trades", "taq-trades.toml", 40, TRADE_NAMES, TRADE_COLUMNS, none=(), names_of={"T": "Q", "D": ""}, end="END"),
     Layout("trades by row, in 1e-9 dollar, with sides", "taq-trades.toml", 30, TRADE_NAMES,
@@ -804,6 +832,7 @@ def random_trade(layout, dice, parts, syms):
 def judge_trades(program, layout, dice, rows):
     """Runs the program on random trades of a layout. Returns whether it wrote what the converter writes, and `trades` reads it."""
     parts, syms = roster()
+    layout, first = replace(layout, day=dice.randrange(COVERED[0], COVERED[1]) // 86400), None
     made = [random_trade(layout, dice, parts, syms) for _ in range(rows)]
     records, counts = [], {}
     with tempfile.TemporaryDirectory() as room:
@@ -811,6 +840,9 @@ def judge_trades(program, layout, dice, rows):
         ran, got = run_import(program, layout, paths, room, ("executions",))
         for number, row in enumerate(given, 1):
             it = trade_outcome(layout, number, row, parts, syms)
+            day = None if isinstance(it, str) else day_of(layout, row[layout.columns["time"]])
+            first = day if first is None else first
+            it = "another day" if None not in (day, first) and day != first else it
             if isinstance(it, str):
                 counts[it] = counts.get(it, 0) + 1
             else:

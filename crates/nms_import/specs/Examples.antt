@@ -5,7 +5,7 @@ use Rattle.nms_import.specs.declared.meanings.PriceUnit.TheVariants as unit
 use Rattle.nms_import.specs.declared.meanings.Zone.TheVariants as zone
 use Rattle.nms_units.specs.Digits.{number_in}
 use Rattle.nms_import.specs.Mapping.{bits_text, number_of, without_zeros}
-use Rattle.nms_import.specs.Times.{clock_of}
+use Rattle.nms_import.specs.Times.{clock_of, day_of}
 
 -- 34200.000000001
 abbrev pub half_past_nine : List ℕ
@@ -57,6 +57,10 @@ long_price = 49 ∷ 48 ∷ 46 ∷ 48 ∷ 49 ∷ 48 ∷ 48 ∷ 48 ∷ []
 abbrev pub round_size : List ℕ
 round_size = 51 ∷ 48 ∷ 48 ∷ 46 ∷ 48 ∷ []
 
+-- 2024-01-02 09:30:00
+abbrev pub local_iso : List ℕ
+local_iso = 50 ∷ 48 ∷ 50 ∷ 52 ∷ 45 ∷ 48 ∷ 49 ∷ 45 ∷ 48 ∷ 50 ∷ 32 ∷ 48 ∷ 57 ∷ 58 ∷ 51 ∷ 48 ∷ 58 ∷ 48 ∷ 48 ∷ []
+
 -- 2024-03-10 01:59:59-05:00
 abbrev pub last_of_winter : List ℕ
 last_of_winter =
@@ -70,6 +74,10 @@ first_of_summer =
 -- 1720013400: 2024-07-03T13:30:00Z
 abbrev pub july : List ℕ
 july = 49 ∷ 55 ∷ 50 ∷ 48 ∷ 48 ∷ 49 ∷ 51 ∷ 52 ∷ 48 ∷ 48 ∷ 48 ∷ 48 ∷ 48 ∷ []
+
+-- 1704241800000: 2024-01-03T00:30:00Z
+abbrev pub evening : List ℕ
+evening = 49 ∷ 55 ∷ 48 ∷ 52 ∷ 50 ∷ 52 ∷ 49 ∷ 56 ∷ 48 ∷ 48 ∷ 48 ∷ 48 ∷ 48 ∷ []
 
 -- what the texts say; a zone of -0500 is 68,400 seconds on
 pub record ExamplesHold : Type 0 where
@@ -89,7 +97,16 @@ pub record ExamplesHold : Type 0 where
   pub in_summer_by_name : clock_of form.UnixMilliseconds zone.NewYork july ≡ Some 93000000000000
   pub before_the_change : clock_of form.Iso zone.NewYork last_of_winter ≡ Some 15959000000000
   pub after_the_change : clock_of form.Iso zone.NewYork first_of_summer ≡ Some 30000000000000
+  pub a_local_time : clock_of form.Iso zone.Unsaid local_iso ≡ Some 93000000000000
+  pub not_if_it_says_an_offset : clock_of form.Iso zone.Unsaid with_offset ≡ None
+  pub not_if_it_counts_from_1970 : clock_of form.UnixNanoseconds zone.Unsaid unix ≡ None
+  pub colons_without_a_zone : clock_of form.Colons zone.Unsaid with_colons ≡ Some 93000500000000
   pub no_date_no_zone : clock_of form.Colons zone.NewYork with_colons ≡ None
+  pub the_day_of_a_date : day_of form.Iso zone.Unsaid local_iso ≡ Some 19724
+  pub the_next_day_in_a_zone : day_of form.Iso (zone.Moved 36000) iso ≡ Some 19725
+  pub a_morning_in_new_york : day_of form.UnixNanoseconds zone.NewYork unix ≡ Some 19725
+  pub the_evening_there : day_of form.UnixMilliseconds zone.NewYork evening ≡ Some 19725
+  pub no_date_no_day : day_of form.Colons zone.Unsaid with_colons ≡ None
   pub a_bit_of_a_number : bits_text 128 flags ≡ codes "1"
   pub another_bit : bits_text 4 flags ≡ codes "0"
   pub zeros_after_four_decimals : number_of unit.Dollars long_price ≡ Some 100100

@@ -1,9 +1,9 @@
 -- What is read of a mapping's document. This product's own rule.
-use Rattle.std.specs.Prelude.{◌≡◌, ◌≢◌, ℕ, ◌<◌, ◌≤◌, codes, Bool, true, false, List, [], length, nat_le, nat_lt}
+use Rattle.std.specs.Prelude.{◌≡◌, ◌≢◌, ℕ, ◌<◌, ◌≤◌, ◌||◌, codes, Bool, true, false, List, [], length, nat_le, nat_lt}
 use Rattle.std.specs.Prelude.{Option, Some, None, is_some, option_and_then, unwrap_or, if◌then◌else◌}
 use Rattle.std.specs.Option.{option_map_or}
 use Rattle.std.specs.Str.{bytes_eq}
-use Rattle.toml.specs.Data.{Members}
+use Rattle.toml.specs.Data.{Data, Members, as_str}
 use Rattle.nms_units.specs.declared.TheConstants.{MOST_LOT}
 use Rattle.nms_import.specs.declared.keys.Kind.{Kind}
 use Rattle.nms_import.specs.declared.keys.Kind.TheVariants as kind
@@ -18,7 +18,7 @@ use Rattle.nms_import.specs.declared.meanings.TimeForm.{TimeForm}
 use Rattle.nms_import.specs.declared.meanings.TimeForm.TheVariants as form
 use Rattle.nms_import.specs.declared.meanings.Zone.{Zone}
 use Rattle.nms_import.specs.declared.meanings.Zone.TheVariants as zone
-use Rattle.nms_import.specs.Drafts.{Doc, plain, text_at}
+use Rattle.nms_import.specs.Drafts.{Doc, plain, text_at, value_at}
 use Rattle.nms_import.specs.Findings.{faults_of}
 use Rattle.nms_import.specs.Forms.{is_delimiter, zone_in}
 
@@ -48,32 +48,43 @@ form_named text =
 abbrev pub form_in : Doc → TimeForm
 form_in draft = unwrap_or (option_and_then form_named (text_at draft (codes "time") (codes "form"))) form.Clock
 
--- the seconds by which times are moved on
-abbrev pub seconds_in : Doc → ℕ
-seconds_in draft = unwrap_or (option_and_then zone_in (text_at draft (codes "time") (codes "zone_offset"))) 0
+-- times are moved on by the seconds of an offset
+abbrev pub moved_by : List ℕ → Zone
+moved_by text = zone.Moved (unwrap_or (zone_in text) 0)
 
--- how times are moved: to the clock of the zone that is named, else by the offset
+-- how times are moved: to the clock of the zone that is named, else by the offset, if there is one
 abbrev pub is_new_york : List ℕ → Bool
 is_new_york text = bytes_eq text (codes "America/New_York")
 
 abbrev pub zone_of : Doc → Zone
 zone_of draft =
     if option_map_or is_new_york (text_at draft (codes "time") (codes "zone")) false then zone.NewYork
-    else zone.Moved (seconds_in draft)
+    else option_map_or moved_by (text_at draft (codes "time") (codes "zone_offset")) zone.Unsaid
 
 -- by less than a day
 abbrev pub is_in_a_day : Zone → Bool
+is_in_a_day zone.Unsaid = true
 is_in_a_day (zone.Moved seconds) = nat_lt seconds 86400
 is_in_a_day zone.NewYork = true
 
+-- a mapping whose kind is misspelt: its rows have one side each if it has a column of sizes
+abbrev pub kind_meant : Doc → Kind
+kind_meant draft = if is_some (value_at draft (codes "column") (codes "size")) then kind.Sides else kind.Quotes
+
 -- a mapping of quotes whose rows have one side each, if its document says so
-abbrev pub is_text_of_sides : List ℕ → Bool
-is_text_of_sides text = bytes_eq text (codes "sides")
+abbrev pub kind_named : Doc → List ℕ → Kind
+kind_named draft text =
+    if bytes_eq text (codes "sides") then kind.Sides
+    else (if bytes_eq text (codes "quotes") || bytes_eq text (codes "trades") then kind.Quotes else kind_meant draft)
+
+abbrev pub kind_by : Doc → Data → Kind
+kind_by draft value = option_map_or (kind_named draft) (as_str value) (kind_meant draft)
+
+abbrev pub kind_of_quotes : Doc → Kind
+kind_of_quotes draft = option_map_or (kind_by draft) (value_at draft (codes "file") (codes "kind")) kind.Quotes
 
 abbrev pub kind_said : Members → Kind
-kind_said document =
-    if option_map_or is_text_of_sides (text_at (plain kind.Quotes document) (codes "file") (codes "kind")) false then kind.Sides
-    else kind.Quotes
+kind_said document = kind_of_quotes (plain kind.Quotes document)
 
 abbrev pub is_of_sides : Kind → Bool
 is_of_sides kind.Quotes = false

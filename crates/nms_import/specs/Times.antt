@@ -147,19 +147,26 @@ is_between second = is_between_on (second / 86400 + 671)
 abbrev pub is_summer : (second : ℕ) → Bool
 is_summer second = is_between (second - 25200) && is_between (second - 21600)
 
--- the time of day, of the years 2007 to 2099
-abbrev pub new_york_at : (second nanos : ℕ) → Option ℕ
-new_york_at second nanos =
+-- the seconds by which the clock there is moved on from UTC, over midnight; known of the years 2007 to 2099
+abbrev pub new_york_zone : (second : ℕ) → Option ℕ
+new_york_zone second =
     if nat_lt second 1167609600 || nat_le 4102444800 second then None
-    else Some (clock_at (if is_summer second then 72000 else 68400) nanos)
+    else Some (if is_summer second then 72000 else 68400)
 
 abbrev pub in_new_york : (nanos : ℕ) → Option ℕ
-in_new_york nanos = new_york_at (nanos / 1000000000) nanos
+in_new_york nanos = option_map (λ zone. clock_at zone nanos) (new_york_zone (nanos / 1000000000))
 
--- the time of day of nanoseconds since 1970, or after a midnight, in a zone
+-- the time of day of nanoseconds since 1970, in a zone; not known if the mapping says none
 abbrev pub zoned : Zone → (nanos : ℕ) → Option ℕ
+zoned zone.Unsaid nanos = None
 zoned (zone.Moved seconds) nanos = Some (clock_at seconds nanos)
 zoned zone.NewYork nanos = in_new_york nanos
+
+-- the time of day of nanoseconds after a midnight of the clock of the market, or of the zone that is said
+abbrev pub local : Zone → (nanos : ℕ) → Option ℕ
+local zone.Unsaid nanos = Some (clock_at 0 nanos)
+local (zone.Moved seconds) nanos = zoned (zone.Moved seconds) nanos
+local zone.NewYork nanos = zoned zone.NewYork nanos
 
 -- ---- "iso" in such a zone: its date is read, as YYYY-MM-DD
 
@@ -204,8 +211,13 @@ instant_from midnight text = option_map (λ nanos. nanos - over_midnight text) (
 abbrev pub instant_number : List ℕ → Option ℕ
 instant_number text = if has_date text then instant_from (midnight_number text) (drop 11 text) else None
 
--- a date and a time in a zone
+-- whether a time after a date says how far it is from UTC
+abbrev pub says_zone : List ℕ → Bool
+says_zone text = nat_lt 11 (length text) && not (nat_eq (zone_length (drop 11 text)) 0)
+
+-- a date and a time in a zone; if the mapping says none, the time has to be one of the clock of the market
 abbrev pub iso_zoned : Zone → List ℕ → Option ℕ
+iso_zoned zone.Unsaid text = if says_zone text then None else option_map (clock_at 0) (iso_number text)
 iso_zoned (zone.Moved seconds) text = option_map (clock_at seconds) (iso_number text)
 iso_zoned zone.NewYork text = option_and_then in_new_york (instant_number text)
 
@@ -222,9 +234,30 @@ milliseconds text = option_map (λ n. n * 1000000) (number_in 13 text)
 -- "unix_ns" is one to 19 digits: nanoseconds since 1970
 abbrev pub clock_of : TimeForm → Zone → List ℕ → Option ℕ
 clock_of form.Clock zone text = only_if is_clock (clock_number text)
-clock_of form.Seconds zone text = option_and_then (zoned zone) (seconds_number text)
+clock_of form.Seconds zone text = option_and_then (local zone) (seconds_number text)
 clock_of form.UnixNanoseconds zone text = option_and_then (zoned zone) (number_in 19 text)
 clock_of form.UnixMicroseconds zone text = option_and_then (zoned zone) (microseconds text)
 clock_of form.UnixMilliseconds zone text = option_and_then (zoned zone) (milliseconds text)
-clock_of form.Colons zone text = option_and_then (zoned zone) (colons_number text)
+clock_of form.Colons zone text = option_and_then (local zone) (colons_number text)
 clock_of form.Iso zone text = iso_zoned zone text
+
+-- ---- the day that a text says, by the clock of its zone: the days that end at a midnight there, counted from one that depends on
+-- the zone only
+
+abbrev pub day_at : (zone nanos : ℕ) → ℕ
+day_at zone nanos = (nanos / 1000000000 + zone) / 86400
+
+abbrev pub day_in : Zone → (nanos : ℕ) → Option ℕ
+day_in zone.Unsaid nanos = Some (day_at 0 nanos)
+day_in (zone.Moved seconds) nanos = Some (day_at seconds nanos)
+day_in zone.NewYork nanos = option_map (λ zone. day_at zone nanos) (new_york_zone (nanos / 1000000000))
+
+-- only a date says one, as do the times since 1970
+abbrev pub day_of : TimeForm → Zone → List ℕ → Option ℕ
+day_of form.Clock zone text = None
+day_of form.Seconds zone text = None
+day_of form.Colons zone text = None
+day_of form.UnixNanoseconds zone text = option_and_then (day_in zone) (number_in 19 text)
+day_of form.UnixMicroseconds zone text = option_and_then (day_in zone) (microseconds text)
+day_of form.UnixMilliseconds zone text = option_and_then (day_in zone) (milliseconds text)
+day_of form.Iso zone text = option_and_then (day_in zone) (instant_number text)

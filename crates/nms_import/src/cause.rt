@@ -4,7 +4,8 @@ ghost use Rattle.nms_import.specs.Causes.{is_skipped};
 
 use nms_quote::Side;
 
-/// Why a row makes no change: the first that holds, in this order. The first ten refuse the row, the others skip it.
+/// Why a row makes no change: the first cause that is found. The first ten of these causes refuse the row, and the last three
+/// skip it.
 #[derive(Clone, Copy, PartialEq, Eq)]
 pub enum Cause {
     /// Fewer columns than the mapping names.
@@ -15,9 +16,9 @@ pub enum Cause {
     UnknownParticipant,
     /// The symbol is not on the roster, and the mapping refuses such rows.
     UnknownSymbol,
-    /// The mapping lists no such condition.
+    /// The mapping does not list the row's condition.
     UnknownCondition,
-    /// The condition makes only this side manual. No record can say that, and the mapping refuses such rows.
+    /// The condition makes only the given side manual. No record can say that, and the mapping refuses such rows.
     OneSided(Side),
     /// Each row has one side, and the mapping does not list this row's word for it.
     UnknownSide,

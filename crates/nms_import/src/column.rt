@@ -18,13 +18,13 @@ pub enum Column {
     At(usize),
     /// The same text in every row.
     Fixed(Vec<u8>),
-    /// Whether the number at a place, from 0, has any of some bits: `1` or `0`.
+    /// `1` if the number in the field at a place, counted from 0, has any of the given bits, and `0` if it has none.
     Bits(usize, u16),
 }
 
 /// The columns that a mapping reads, in one file.
 pub struct Columns {
-    /// How many columns a row needs: one more than the greatest place.
+    /// How many columns a row needs: one more than the greatest place, counted from 0, of a column that is read.
     pub width: usize,
     /// The time of day.
     pub time: Column,
@@ -42,15 +42,16 @@ pub struct Columns {
     pub offer_size: Column,
     /// The word for the row's side, if each row has one side.
     pub side: Column,
-    /// The first text of the condition.
+    /// The first of the two texts of the condition. It is empty if the condition has only one column.
     pub source: Column,
-    /// The second text of the condition.
+    /// The second text of the condition, or its only one.
     pub condition: Column,
-    /// The text by which a row is skipped.
+    /// The text that says whether a row is skipped. The mapping lists the words to skip.
     pub skip: Column,
 }
 
-/// It has its own `Drop`, so that a function that holds one has one call at each exit, and not one for each part (docs/GATE.md).
+/// The columns have their own `Drop`. A function that holds them has one call at each exit, and not one for each column
+/// (docs/GATE.md).
 impl Drop for Columns {
     fn drop(self) {
         let Columns {
@@ -71,7 +72,7 @@ impl Drop for Columns {
 }
 
 impl Columns {
-    /// Columns that are the empty text.
+    /// Columns that read nothing: each of them gives the empty text in every row.
     pub(crate) fn none(alloc: Global) -> Columns
         ensures { result.width ≡ 0 }
     {
@@ -96,11 +97,12 @@ impl Columns {
 pub enum RowColumns {
     /// Each row has both sides.
     Both(Columns),
-    /// Each row has one side: the columns of a bid, and those of an offer. The other side is the empty text there.
+    /// Each row has one side. It is read by the columns of a bid or by those of an offer, where the other side is empty.
     One(Columns, Columns),
 }
 
-/// It has its own `Drop`, so that a function that holds one has one call at each exit, and not one for each part (docs/GATE.md).
+/// The columns have their own `Drop`. A function that holds them has one call at each exit, and not one for each column
+/// (docs/GATE.md).
 impl Drop for RowColumns {
     fn drop(self) {
         match self {
@@ -111,7 +113,7 @@ impl Drop for RowColumns {
 }
 
 impl RowColumns {
-    /// The columns by which a row is read: those of its side, if each row has one.
+    /// The columns by which a row is read. If each row has one side, they are the columns of that side.
     pub fn of_row<'a>(&'a self, meanings: &Meanings, row: &ByteRecord) -> &'a Columns
         ensures { result.now ≡ columns_of self.now meanings.now (fields_of row.now) }
     {
@@ -147,7 +149,8 @@ impl Column {
     }
 }
 
-/// `1` if a number of at most nine digits has any of some bits, and `0` if it has none; another text as it is.
+/// `1` if the text is a number of at most nine digits with any of the given bits, and `0` if it has none. Any other text stays
+/// as it is.
 fn bits_text(text: &[u8], bits: u16) -> &[u8]
     ensures { result.now ≡ bits_text bits text.now }
 {

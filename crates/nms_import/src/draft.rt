@@ -14,20 +14,20 @@ pub struct Meant<'a> {
     pub table: &'static str,
     /// The key.
     pub key: &'static str,
-    /// The name that the document has.
+    /// The name that the document has in place of the key.
     pub written: &'a str,
 }
 
-/// The document of a mapping.
+/// A mapping's document, with the names in it that are taken for keys.
 #[derive(Clone, Copy)]
 pub struct Draft<'a> {
     /// The keys of all mappings.
     pub keys: &'static [Row],
-    /// What the mapping is for.
+    /// What the mapping is for: quotes, quotes of one side, trades or national bests.
     pub kind: Kind,
     /// The document that was read.
     pub document: &'a Table,
-    /// The names that are taken for keys.
+    /// The names in the document that are taken for absent keys.
     pub meant: &'a [Meant<'a>],
 }
 
@@ -36,7 +36,7 @@ impl<'a> Draft<'a> {
     ghost use Rattle.toml.specs.View.{table_view, view};
     ghost use Rattle.nms_import.specs.Drafts.{doc_of, is_flagged, items_at, members_at, plain, text_at, value_at};
 
-    /// A document of which each name is taken as it is.
+    /// A document in which each name is taken as it is written, and none for another key.
     #[tactic(auto, unfolding(crate::specs::Keys::all_keys))]
     pub fn new(kind: Kind, document: &'a Table) -> Draft<'a>
         ensures { doc_of result ≡ plain kind (table_view document.now) }
@@ -79,7 +79,7 @@ impl<'a> Draft<'a> {
         }
     }
 
-    /// Whether a key is `true`.
+    /// Whether the value at a key is `true`.
     pub fn is_flagged(self, table: &str, key: &str) -> bool
         ensures { result ≡ is_flagged (doc_of self.entry) table.now key.now }
     {
@@ -103,7 +103,7 @@ impl<'a> Draft<'a> {
     }
 }
 
-/// The name that a document has for a key.
+/// The name that a document has for a key: the name that is taken for the key, or the key itself.
 pub fn written_as<'a>(meant: &[Meant<'a>], table: &str, key: &'a str) -> &'a str
     ensures { result.now ≡ written_as (map name_of meant.now) table.now key.now }
 {

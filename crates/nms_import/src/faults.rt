@@ -16,7 +16,7 @@ use toml::{Table, Value};
 /// The faults that were found so far.
 type Found<'a> = Vec<Finding<'a>>;
 
-/// Whether there was memory for one more.
+/// Whether there was memory to note one more fault.
 type Noted = Result<(), AllocError>;
 
 /// Refuses a document for its first fault.
@@ -31,7 +31,8 @@ pub fn check(alloc: Global, draft: Draft<'_>) -> Result<(), MapFault<'_>>
     }
 }
 
-/// Every fault of a document, table by table, and within a table in the order of its keys. Those of unknown keys come first.
+/// Every fault of a document, table by table. In each table the unknown keys come first, and then the other faults in the order
+/// of the keys.
 pub fn find_faults<'a>(alloc: Global, draft: Draft<'a>) -> Result<Vec<Finding<'a>>, AllocError>
     ensures { IfOk result (λ found. map fault_of found.items ≡ faults_of (doc_of draft.entry)) }
 {
@@ -62,7 +63,7 @@ fn note<'a>(
     Ok(())
 }
 
-/// Notes a value, or a word of a list, that is not what is expected.
+/// Notes a wrong value, or a wrong word of a list, with what is expected in its place. `None` means that it is right.
 fn note_refused<'a>(
     found: &mut Found<'a>,
     table: &'static str,
@@ -154,7 +155,7 @@ fn note_key<'a>(found: &mut Found<'a>, draft: Draft<'a>, row: &Row) -> Noted
     }
 }
 
-/// Notes a key that is needed, and absent, as is any in its place.
+/// Notes a key that is needed but absent, unless the document has another key in its place.
 fn note_absent<'a>(found: &mut Found<'a>, draft: Draft<'a>, row: &Row) -> Noted
     ensures { OnOk result (Adds found.old.items found.new.items (absent_faults (doc_of draft.entry) (see row.now))) }
 {
@@ -165,14 +166,14 @@ fn note_absent<'a>(found: &mut Found<'a>, draft: Draft<'a>, row: &Row) -> Noted
     note(found, row.0, row.1, None, Wrong::Missing, expected)
 }
 
-/// Whether another key is in place of a column's.
+/// Whether the document has another key in place of a column's key.
 fn is_replaced(draft: Draft<'_>, row: &Row) -> bool
     ensures { result ≡ is_replaced (doc_of draft.entry) (see row.now) }
 {
     row.3.0.is_column() && has_named(draft, row)
 }
 
-/// What is expected of a key that is needed.
+/// What is expected at a key that is needed but absent.
 fn absent_expected(draft: Draft<'_>, row: &Row) -> &'static str
     ensures { result.now ≡ absent_expected (doc_of draft.entry) (see row.now) }
 {
@@ -183,7 +184,7 @@ fn absent_expected(draft: Draft<'_>, row: &Row) -> &'static str
     }
 }
 
-/// Notes names that are no participants.
+/// Notes the values in the table of participants that are no participants' names.
 fn note_names<'a>(found: &mut Found<'a>, row: &Row, members: &'a Table) -> Noted
     ensures { OnOk result (Adds found.old.items found.new.items (names_faults (see row.now) (table_view members.now) (names_in (table_view members.now)))) }
 {
@@ -230,7 +231,7 @@ fn list_in(form: Form, value: &Value) -> Option<&[Value]>
     }
 }
 
-/// What is expected instead of a value that is wrong and no list.
+/// What is expected instead of a value that is no list; `None` if the value is right.
 fn value_expected(draft: Draft<'_>, row: &Row, value: &Value) -> Option<&'static str>
     ensures { option_map (λ it. it.now) result ≡ value_expected (doc_of draft.entry) (see row.now) (view value.now) }
 {
@@ -241,7 +242,7 @@ fn value_expected(draft: Draft<'_>, row: &Row, value: &Value) -> Option<&'static
     }
 }
 
-/// What is expected at a key.
+/// What is expected at a key that has a wrong value.
 fn form_expected(draft: Draft<'_>, row: &Row, value: &Value) -> &'static str
     ensures { result.now ≡ form_expected (doc_of draft.entry) (see row.now) (view value.now) }
 {

@@ -36,7 +36,7 @@ use nms_quote::Roster;
 use std::alloc::Global;
 use std::io::{Read, Write};
 
-/// Room that is kept from row to row.
+/// The memory that an import keeps from row to row.
 #[derive(Drop)]
 pub struct Work {
     /// The present row.
@@ -140,7 +140,7 @@ fn make_room(meanings: &Meanings, roster: &Roster, kept: &mut KeptSides) -> Resu
     Ok(())
 }
 
-/// Imports the present row, which has this number, by its columns.
+/// Imports the present row by its columns. `number` is its number among the rows of all files, counted from 1.
 fn import_row<C: Write, T: Write, E: Write>(
     columns: &Columns,
     meanings: &Meanings,
@@ -245,7 +245,7 @@ fn import_side<C: Write, T: Write, E: Write>(
     }
 }
 
-/// What a row of one side gives: its own entry, or what it leaves.
+/// The change that a row of one side gives: its own, or the withdrawal that it leaves.
 fn given_in(step: &SideStep) -> Option<&Entry>
     ensures { option_map (λ entry. entry.now) result ≡ given_in step.now.made step.now.left }
 {
@@ -277,7 +277,8 @@ fn count_step<E: Write>(
     }
 }
 
-/// Notes the last line of a file, which is the row with this number, if that is the cause why it makes no change.
+/// Notes the last line of a file, if a row makes no change because it is one. `number` is its number among the rows of all
+/// files, from 1.
 pub fn note_cause(cause: Cause, row: &ByteRecord, number: u64, notes: &mut Notes)
     ensures time { notes.new.time ≡ notes.old.time }
     ensures changes { notes.new.changes ≡ notes.old.changes }
@@ -287,7 +288,7 @@ pub fn note_cause(cause: Cause, row: &ByteRecord, number: u64, notes: &mut Notes
     }
 }
 
-/// Gives the change that the present row leaves, if it leaves one.
+/// Writes and notes the withdrawal that the present row leaves, if it leaves one. The row itself makes no change.
 fn give_left<C: Write, T: Write, E: Write>(
     columns: &Columns,
     meanings: &Meanings,

@@ -11,7 +11,7 @@ use std::marker::Model;
 #[derive(Drop)]
 pub struct KeptSides {
     symbols: usize,
-    /// By the symbol, and then by the participant.
+    /// The sides of each participant in each symbol, in the order of the symbols, and within a symbol of the participants.
     all: Vec<Sides>,
 }
 
@@ -34,7 +34,7 @@ impl KeptSides {
     ghost use Rattle.std.specs.Prelude.{length, true};
     ghost use Rattle.nms_import.specs.SideRows.{kept_in, no_sides, put, without};
 
-    /// Before any row. It takes no memory before there is room for a symbol.
+    /// The sides before any row, when no participant shows anything. They take no memory before there is room for a symbol.
     pub fn new(alloc: Global) -> KeptSides
         ensures symbols { result.symbols ≡ 0 }
         ensures nothing { (part sym : ℕ) → kept_in result.all part sym ≡ no_sides }
@@ -82,7 +82,7 @@ impl KeptSides {
         }
     }
 
-    /// Lets a participant show these sides of a symbol, if there is room for it.
+    /// Records that a participant shows the given sides of a symbol, if there is room for the symbol.
     #[tactic(auto, using(crate::proofs::SideFacts::kept_put))]
     pub fn put(&mut self, part: Part, sym: Sym, sides: Sides)
         ensures symbols { self.new.symbols ≡ self.old.symbols }

@@ -23,7 +23,7 @@ pub enum Kind {
 pub enum Form {
     /// A table.
     Table,
-    /// One of the words of the key.
+    /// One of the words that the key allows.
     Choice,
     /// A text of one byte that can be between fields.
     Delimiter,
@@ -37,7 +37,7 @@ pub enum Form {
     Column,
     /// A column, or an array of two.
     Columns,
-    /// A column in place of one of the keys that the row names, which has to be absent.
+    /// A column in place of the column of another key, which has to be absent.
     Instead,
     /// `shares`, or `lots` next to the key `lot`.
     SizeUnit,
@@ -47,7 +47,7 @@ pub enum Form {
     Zone,
     /// A zone's name, one of the words of the key, next to times that have a date and no other zone.
     ZoneName,
-    /// A participant's name; it is in place of any key of the table. That of `*` is `same`.
+    /// A participant's name. Its key can be any word of the file. The value at the key `*` is `same`.
     Name,
     /// Texts.
     Words,
@@ -83,14 +83,14 @@ impl Form {
         matches!(self, Form::Column)
     }
 
-    /// Whether a column is there that is another key's.
+    /// Whether the value is a column in place of the column of another key.
     pub(crate) fn is_instead(self) -> bool
         ensures { result ≡ is_instead self }
     {
         matches!(self, Form::Instead)
     }
 
-    /// Whether texts are there.
+    /// Whether the value is a list of texts.
     pub(crate) fn is_list(self) -> bool
         ensures { result ≡ is_list self }
     {
@@ -111,8 +111,9 @@ impl Form {
 /// Whether mappings of quotes, of sides, of trades and of national bests have a key.
 pub type Kinds = (bool, bool, bool, bool);
 
-/// What is at a key: its form; whether it is needed; the words of a choice, of which an absent key has the first, or of a
-/// column the keys that may be in its place, or in whose place it may be; and what is expected, empty for a column.
+/// The rule for a key: the form of its value; whether it is needed; its words; and what is expected, empty for a column. The
+/// words of a choice are the allowed values, of which an absent key has the first. The words of a column are the keys that may
+/// be in its place, or in whose place it may be.
 pub type Rule = (Form, bool, &'static [&'static str], &'static str);
 
 /// A key: its table, empty for the top; its name; the mappings that have it; and the rule for its value.
@@ -126,8 +127,6 @@ const PAIRED: Kinds = (true, false, false, true);
 
 const NAMED: Kinds = (true, true, true, false);
 
-const QUOTES: Kinds = (true, true, false, false);
-
 const SIDES: Kinds = (false, true, false, false);
 
 const SINGLE: Kinds = (false, true, true, false);
@@ -135,6 +134,10 @@ const SINGLE: Kinds = (false, true, true, false);
 const TRADES: Kinds = (false, false, true, false);
 
 const BESTS: Kinds = (false, false, false, true);
+
+const WHOLE: Kinds = (true, false, false, false);
+
+const IN_PARTS: Kinds = (false, true, false, true);
 
 const A_TABLE: &str = "a table, as after a line [file]";
 
@@ -167,7 +170,7 @@ const A_ZONE_NAME: &str =
 
 const ORDERS: &str = "\"given\", \"symbol\" or \"free\"";
 
-const TIMED: &str = "\"given\" or \"symbol\": rows are found by their times";
+const TIMED: &str = "\"given\" or \"symbol\": such rows come by time";
 
 const ON_ROSTER: &str = "the participant's name on the roster, as a text";
 
@@ -273,7 +276,7 @@ pub const SAME: &str = "\"same\": any other word is its own name";
 /// What is expected of a column in a file whose first line names its columns.
 pub const A_NAME: &str =
     "the name of a column, its number from 1 to 1000, { fixed = \"TEXT\" } or { column = \"flags\", bits = 128 }";
-/// What is expected of a column in another file.
+/// What is expected of a column in a file whose first line does not name its columns.
 pub const A_NUMBER: &str =
     "the number of a column, 1 to 1000, { fixed = \"TEXT\" } or { column = 3, bits = 128 } (names need header = true)";
 
@@ -330,8 +333,8 @@ pub static KEYS: [Row; 84] = [
     ("time", "form", ALL, TIME_FORM),
     ("time", "zone_offset", ALL, ZONE),
     ("time", "zone", ALL, ZONE_NAME),
-    ("time", "order", QUOTES, ORDER),
-    ("time", "order", BESTS, IN_TIME),
+    ("time", "order", WHOLE, ORDER),
+    ("time", "order", IN_PARTS, IN_TIME),
     ("participant", "*", ALL, NAME),
     ("symbol", "replace", ALL, PAIRS),
     ("symbol", "unknown", ALL, UNKNOWN),

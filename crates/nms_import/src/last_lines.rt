@@ -46,7 +46,7 @@ impl LastLines {
         self.ended = false;
     }
 
-    /// Notes a last line, which is the row with this number.
+    /// Notes the last line of a file. `number` is its number among the rows of all files, counted from 1.
     pub fn note(&mut self, row: &ByteRecord, number: u64)
         ensures { self.new ≡ after_last self.old (fields_of row.now) number }
     {
@@ -64,7 +64,8 @@ impl LastLines {
     }
 }
 
-/// Whether a last line, the row with this number, has another count than that of the rows after the first `begun`.
+/// Whether the count in a last line is wrong. The right count is the number of rows after the first `begun` rows and before the
+/// last line.
 fn lacks_count(count: Option<u16>, row: &ByteRecord, begun: u64, number: u64) -> bool
     ensures { result ≡ lacks_count count (fields_of row.now) begun number }
 {
@@ -74,7 +75,7 @@ fn lacks_count(count: Option<u16>, row: &ByteRecord, begun: u64, number: u64) ->
     }
 }
 
-/// Whether a text is the count of the rows after the first `begun` and before the row with this number.
+/// Whether a text is the number of rows that come after the first `begun` rows and before the row with the given number.
 fn is_counted(text: &[u8], begun: u64, number: u64) -> bool
     ensures { result ≡ is_counted text.now begun number }
 {

@@ -65,7 +65,7 @@ pub use telling::{
     RowPlace, Telling, Told, column_of, most_of, no_time, sentence_of, show_row, write_symbols,
     write_tally,
 };
-pub use time::{append_clock, append_line, clock_of};
+pub use time::{append_clock, append_line, clock_of, day_of};
 pub use toml::Table;
 pub use words::{is_listed, name_of, side_in, side_named};
 

@@ -5,14 +5,14 @@ ghost use Rattle.nms_import.specs.Refusals.{code_of, wrong_code};
 
 use std::alloc::AllocError;
 
-/// What is wrong at a key.
+/// What is wrong at a key of a mapping's document.
 #[derive(Clone, Copy, PartialEq, Eq)]
 pub enum Wrong {
     /// M2: the key is needed, but absent.
     Missing,
     /// M3: there is no such key.
     Unknown,
-    /// M4: its value is not one of those that are allowed.
+    /// M4: the key has a value that is not allowed.
     BadValue,
 }
 
@@ -23,11 +23,11 @@ pub struct Finding<'a> {
     pub table: &'static str,
     /// The key's name.
     pub key: &'a str,
-    /// The place in the key's list, if a word of it is wrong.
+    /// The place of the wrong word in the key's list, counted from 0; `None` if no word of a list is wrong.
     pub word: Option<usize>,
     /// What is wrong.
     pub wrong: Wrong,
-    /// What is expected there. It is empty for an unknown key, instead of which any other key may be meant (`keys_text`).
+    /// What the document should have at the key. It is empty for an unknown key, because any other key may be meant.
     pub expected: &'static str,
 }
 
@@ -41,11 +41,11 @@ pub enum MapFault<'a> {
     },
     /// M2 to M4: a fault of the document.
     Refused(Finding<'a>),
-    /// M5: the file's first line has no column of that name, or has it twice.
+    /// M5: the file's first line lacks a column that the mapping names, or has it twice.
     NoColumn {
-        /// The key of the table `column`.
+        /// The key that names the column in the mapping's table `column`.
         key: &'static str,
-        /// What is expected there.
+        /// What the mapping should have at the key.
         expected: &'static str,
     },
     /// M6: out of memory.

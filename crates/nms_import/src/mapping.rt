@@ -42,13 +42,13 @@ pub enum Source {
     Named(Vec<u8>),
     /// The same text in every row.
     Fixed(Vec<u8>),
-    /// Some bits of the number at its place, from 0.
+    /// Some bits of the number in the column at a place, counted from 0.
     PlaceBits(u16, u16),
-    /// Some bits of the number in the column of its name in the first row.
+    /// Some bits of the number in the column that has a name in the first row.
     NamedBits(Vec<u8>, u16),
 }
 
-/// It has its own `Drop`, so that a function that holds one has one call at each exit, and not one for each part (docs/GATE.md).
+/// A column has its own `Drop`. A function that holds one has one call at each exit, and not one for each part (docs/GATE.md).
 impl Drop for Source {
     fn drop(self) {
         match self {
@@ -82,7 +82,8 @@ pub struct Sources {
     pub(crate) skip: Source,
 }
 
-/// It has its own `Drop`, so that a function that holds one has one call at each exit, and not one for each part (docs/GATE.md).
+/// The columns have their own `Drop`. A function that holds them has one call at each exit, and not one for each column
+/// (docs/GATE.md).
 impl Drop for Sources {
     fn drop(self) {
         let Sources {
@@ -104,13 +105,13 @@ impl Drop for Sources {
     }
 }
 
-/// A mapping.
+/// A mapping: how the rows of a vendor's file are read.
 pub struct Mapping {
     /// How the file is laid out.
     pub file: FileForm,
     /// The order of the file's rows.
     pub order: Order,
-    /// What the texts mean.
+    /// What the texts of the file mean.
     pub meanings: Meanings,
     /// The columns of a row; those of a bid, if each row has one side.
     pub(crate) sources: Sources,
@@ -118,7 +119,7 @@ pub struct Mapping {
     pub(crate) offers: Option<Sources>,
 }
 
-/// It has its own `Drop`, so that a function that holds one has one call at each exit, and not one for each part (docs/GATE.md).
+/// A mapping has its own `Drop`. A function that holds one has one call at each exit, and not one for each part (docs/GATE.md).
 impl Drop for Mapping {
     fn drop(self) {
         let Mapping {
@@ -131,7 +132,7 @@ impl Drop for Mapping {
     }
 }
 
-/// What is expected of a column's name.
+/// What is expected of a column's name that the file's first line lacks.
 const A_COLUMN: &str = "the name of a column of the file's first line, letter for letter";
 
 const ONE_COLUMN: &str = "a name that the file's first line has once";
@@ -165,7 +166,7 @@ impl Mapping {
         self.sources.columns(alloc, names)
     }
 
-    /// The same, and how the rows are read by them.
+    /// How the rows of a file whose first row is `names` are read: by one set of columns, or by one set for each side.
     pub fn row_columns(
         &self,
         alloc: Global,
@@ -215,8 +216,8 @@ impl Sources {
     }
 }
 
-/// The place of a key's column in a file whose first row is `names`. A row of at least `width` columns has it, so `width` grows
-/// with it. `NoColumn` if the row lacks its name, or has it twice.
+/// The place of a key's column in a file whose first row is `names`. `width`, the number of columns that a row needs, grows if
+/// the column is beyond it. `NoColumn` comes if the first row lacks the column's name, or has it twice.
 pub fn place_of(
     alloc: Global,
     source: &Source,

@@ -4,7 +4,7 @@ ghost use Rattle.toml.specs.Parse.{parse_document};
 ghost use Rattle.toml.specs.View.{table_view};
 ghost use Rattle.nms_units.specs.declared.TheConstants.{MOST_LOT};
 ghost use Rattle.nms_import.specs.Findings.{IsFirst, faults_of};
-ghost use Rattle.nms_import.specs.Readings.{AreMeaningsOf, IsMappingOf, is_of_sides, kind_said};
+ghost use Rattle.nms_import.specs.Readings.{AreMeaningsOf, IsMappingOf, is_of_sides, kind_meant, kind_said};
 ghost use Rattle.nms_import.specs.Drafts.{doc_of, plain};
 ghost use Rattle.nms_import.specs.Refusals.{is_of_text};
 
@@ -65,13 +65,30 @@ pub fn mapping_of(alloc: Global, document: &Table) -> Result<Mapping, MapFault<'
     )
 }
 
-/// What a mapping of quotes is for: `[file] kind = "sides"` says that each row has one side.
+/// What a mapping of quotes is for: `[file] kind = "sides"` says that each row has one side. If the kind is misspelt, a column of
+/// sizes says so.
 pub fn kind_said(document: &Table) -> Kind
     ensures { result ≡ kind_said (table_view document.now) }
 {
-    match Draft::new(Kind::Quotes, document).text("file", "kind") {
-        Some("sides") => Kind::Sides,
-        Some(_) | None => Kind::Quotes,
+    let draft = Draft::new(Kind::Quotes, document);
+    match draft.value("file", "kind") {
+        Some(value) => match value.as_str() {
+            Some("sides") => Kind::Sides,
+            Some("quotes" | "trades") => Kind::Quotes,
+            Some(_) | None => kind_meant(draft),
+        },
+        None => Kind::Quotes,
+    }
+}
+
+/// What a mapping is for if its kind is misspelt. If it has a column of sizes, each row has one side.
+fn kind_meant(draft: Draft<'_>) -> Kind
+    ensures { result ≡ kind_meant (doc_of draft.entry) }
+{
+    if draft.value("column", "size").is_some() {
+        Kind::Sides
+    } else {
+        Kind::Quotes
     }
 }
 
@@ -184,7 +201,8 @@ fn half_in(draft: Draft<'_>) -> Half {
     }
 }
 
-/// Adds the conditions. Without the table only the empty condition is known, and it is automated.
+/// Adds the conditions that the document lists. Without the table `state` only the empty condition is known, and it is
+/// automated.
 fn add_states(alloc: Global, draft: Draft<'_>, said: &mut Vec<Said>) -> Result<(), AllocError> {
     if draft.members("state").is_none() {
         let word = Vec::new(alloc);
@@ -205,7 +223,7 @@ fn add_states(alloc: Global, draft: Draft<'_>, said: &mut Vec<Said>) -> Result<(
     Ok(())
 }
 
-/// Adds the conditions of a key.
+/// Adds the conditions that the document lists at a key of the table `state`, each with the given meaning.
 fn add_conditions(
     alloc: Global,
     draft: Draft<'_>,
@@ -222,7 +240,7 @@ fn add_conditions(
     Ok(())
 }
 
-/// The key of a column: the other one, if that is in its place.
+/// The key of a column. It is the other key, if the document has that one in its place.
 pub fn key_of(draft: Draft<'_>, key: &'static str, other: &'static str) -> &'static str {
     if draft.value("column", key).is_none() && draft.value("column", other).is_some() {
         other
@@ -231,16 +249,16 @@ pub fn key_of(draft: Draft<'_>, key: &'static str, other: &'static str) -> &'sta
     }
 }
 
-/// The keys of the columns of a side and of its size.
+/// The keys of the two columns of a side: its price and its size.
 type SideKeys = (&'static str, &'static str);
 
-/// Those of the bid, if a row has both sides. A mapping of rows of one side has no such keys.
+/// The keys of the bid's columns, if each row has both sides. A mapping of rows of one side has no such keys.
 const BOTH_SIDES: SideKeys = ("bid", "bid_size");
 
-/// Those of the row's side, if it has one.
+/// The keys of the columns of a row's side, if each row has one side.
 const ONE_SIDE: SideKeys = ("price", "size");
 
-/// The keys of the bid's columns. Of a row with one side they are those of its side.
+/// The keys of the bid's columns. If each row has one side, they are the keys of that side.
 fn bid_keys(draft: Draft<'_>) -> SideKeys {
     if draft.kind == Kind::Sides {
         ONE_SIDE

@@ -34,13 +34,15 @@ pub enum TimeForm {
 /// How times with a date are moved to the clock of the market.
 #[derive(Clone, Copy)]
 pub enum Zone {
-    /// On by some seconds, over midnight: 68,400 for a zone of `-0500`.
+    /// The mapping names no zone: times are read as they are written, and a time that counts from UTC is not read.
+    Unsaid,
+    /// Times are moved on by a number of seconds, over midnight: 68,400 for a zone of `-0500`.
     Moved(u32),
-    /// To New York's time at that instant.
+    /// Times are moved to New York's time at the same instant.
     NewYork,
 }
 
-/// What becomes of a row whose condition makes one side alone manual.
+/// What becomes of a row whose condition makes only one side manual.
 #[derive(Clone, Copy)]
 pub enum Half {
     /// The row is refused.
@@ -65,7 +67,7 @@ pub enum Meaning {
 /// A word of a list.
 #[derive(Drop)]
 pub struct Word {
-    /// Its bytes.
+    /// The bytes of the word.
     pub text: Vec<u8>,
 }
 
@@ -92,7 +94,7 @@ pub struct Replaced {
 pub struct Said {
     /// The two texts of the condition, one after the other.
     pub word: Vec<u8>,
-    /// What it means.
+    /// What the condition means.
     pub meaning: Meaning,
 }
 
@@ -109,9 +111,9 @@ pub struct SideWords {
 pub struct Meanings {
     /// How a time is written.
     pub time_form: TimeForm,
-    /// How a time is moved.
+    /// How a time is moved to the clock of the market.
     pub zone: Zone,
-    /// What a price counts.
+    /// The unit of a price.
     pub price_unit: PriceUnit,
     /// The words that mean no price.
     pub no_price: Vec<Word>,
@@ -121,13 +123,13 @@ pub struct Meanings {
     pub own_lots: bool,
     /// The participants that have another name on the roster.
     pub names: Vec<Renamed>,
-    /// Whether any other participant has its own name.
+    /// Whether any other participant has the same name on the roster as in the file.
     pub same: bool,
     /// The bytes that are replaced in symbols. The first pair that fits is used.
     pub replaced: Vec<Replaced>,
     /// Whether symbols that are not on the roster are skipped; else they are refused.
     pub skips_symbols: bool,
-    /// The conditions.
+    /// The conditions that the mapping lists, each with its meaning.
     pub said: Vec<Said>,
     /// What is done with a row that has only one manual side.
     pub half: Half,
@@ -141,7 +143,8 @@ pub struct Meanings {
     pub skips: Vec<Word>,
 }
 
-/// It has its own `Drop`, so that a function that holds one has one call at each exit, and not one for each part (docs/GATE.md).
+/// The meanings have their own `Drop`. A function that holds them has one call at each exit, and not one for each part
+/// (docs/GATE.md).
 impl Drop for Meanings {
     fn drop(self) {
         let Meanings {

@@ -17,11 +17,11 @@ use std::marker::Model;
 pub struct Span {
     /// The symbol.
     pub sym: Sym,
-    /// The version after the first of them.
+    /// The version after the symbol's first change.
     pub first: u64,
-    /// The version after the last of them.
+    /// The version after the symbol's last change.
     pub last: u64,
-    /// The time of the last of them.
+    /// The time of the symbol's last change.
     pub time: u64,
 }
 
@@ -118,7 +118,7 @@ impl Notes {
         self.outside > self.changes / 2
     }
 
-    /// Whether the last line of a file counts other rows, or is absent, though the mapping names its count.
+    /// Whether the last line of a file has a wrong count of rows, or is absent, though the mapping names the count.
     pub fn is_short(&self) -> bool
         ensures { result ≡ self.now.lasts.short }
     {
@@ -132,7 +132,7 @@ impl Notes {
         self.lasts.begin_file(rows);
     }
 
-    /// Notes the last line of a file, which is the row with this number.
+    /// Notes the last line of a file. `number` is its number among the rows of all files, counted from 1.
     pub fn note_last(&mut self, row: &ByteRecord, number: u64)
         ensures { self.new ≡ record self.old { lasts = after_last self.old.lasts (fields_of row.now) number } }
     {
@@ -167,7 +167,7 @@ impl Notes {
         &self.spans
     }
 
-    /// Begins another symbol in the first place of the roster.
+    /// Begins another symbol in the first place of the roster. It has no changes yet.
     pub fn begin_symbol(&mut self)
         ensures { self.new ≡ record self.old { spans = slice_set self.old.spans 0 None } }
     {
@@ -213,7 +213,7 @@ impl Notes {
     }
 }
 
-/// No changes yet, of n symbols.
+/// The changes of n symbols, none of which has any yet.
 fn no_spans(alloc: Global, symbols: usize) -> Result<Vec<Option<Span>>, AllocError>
     ensures { IfOk result (λ spans. spans.items ≡ replicate symbols None) }
 {
@@ -257,7 +257,8 @@ fn is_outside(time: u64) -> bool
     time < 40_000_000_000_000 || time > 200_000_000_000_000
 }
 
-/// The earliest time that a row may have, by that of the last row and the changes of its symbol.
+/// The earliest time that a row may have, in the order that the mapping says. It follows from the last row, or from the last
+/// change of the row's symbol.
 fn bound_by(order: Order, time: u64, span: &Option<Span>) -> u64
     ensures { result ≡ bound_by order time span.now }
 {
@@ -271,7 +272,7 @@ fn bound_by(order: Order, time: u64, span: &Option<Span>) -> u64
     }
 }
 
-/// The changes of a symbol with one more.
+/// The span of a symbol's changes after one more change.
 fn with_change(span: &Option<Span>, sym: Sym, version: u64, time: u64) -> Span
     ensures { result ≡ with_change span.now sym version time }
 {

@@ -49,7 +49,7 @@ fn price_in(meanings: &Meanings, side: Side, text: &[u8]) -> Result<Option<Price
     }
 }
 
-/// The number of a price, in 1/10,000 dollar. It may be zero.
+/// The price that a text gives in a unit, in 1/10,000 dollar. It may be zero.
 fn number_of(unit: PriceUnit, text: &[u8]) -> Option<u64>
     ensures { result ≡ number_of unit text.now }
 {
@@ -63,7 +63,7 @@ fn number_of(unit: PriceUnit, text: &[u8]) -> Option<u64>
     }
 }
 
-/// A number of dollars, in 1/10,000 dollar. At most 4 decimals count.
+/// The dollars that a text gives, in 1/10,000 dollar. The text has at most 4 decimals, and zeros after them.
 fn dollars_in(text: &[u8]) -> Option<u64>
     ensures { result ≡ price_number (without_zeros 4 text.now) }
 {
@@ -81,7 +81,7 @@ fn is_lacking(text: &[u8]) -> bool
     text.is_empty() || text == b"nan".as_slice() || text == b"NaN".as_slice()
 }
 
-/// A number without the zeros after its first decimals. If no decimals are kept, its point goes too.
+/// A number without the zeros after its first n decimals. If n is 0, its point goes too.
 pub fn without_zeros(decimals: usize, text: &[u8]) -> &[u8]
     ensures { result.now ≡ without_zeros decimals text.now }
 {
@@ -98,7 +98,7 @@ pub fn without_zeros(decimals: usize, text: &[u8]) -> &[u8]
     }
 }
 
-/// Whether there are more decimals than are kept, all of them zeros.
+/// Whether a number has more than n decimals, of which all after the first n are zeros.
 fn has_more_zeros(decimals: usize, text: &[u8], point: usize) -> bool
     requires { point < length text.now }
     ensures zeros { result ≡ has_more_zeros decimals text.now point }
@@ -127,7 +127,7 @@ fn shares_in(unit: u32, side: Side, text: &[u8]) -> Result<Shares, Cause>
     shares_within(side, number * u64::from(unit))
 }
 
-/// A number of shares, if a side may have that number.
+/// A number of shares, if it is at most the 999,999,999 that a side may have.
 fn shares_within(side: Side, count: u64) -> Result<Shares, Cause>
     ensures { result ≡ shares_within side (Some count) }
 {

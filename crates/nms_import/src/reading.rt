@@ -3,7 +3,7 @@
 ghost use Rattle.std.specs.Prelude.{◌≡◌, ◌<◌, ◌≤◌, IfOk, IfSome, OnOk, true};
 ghost use Rattle.nms_import.specs.Drafts.{doc_of};
 ghost use Rattle.nms_import.specs.Forms.{is_delimiter};
-ghost use Rattle.nms_import.specs.Readings.{AreReadOf, form_in, form_named, is_in_a_day, is_within, seconds_in, zone_of, unit_in, unit_named};
+ghost use Rattle.nms_import.specs.Readings.{AreReadOf, form_in, form_named, is_in_a_day, is_within, moved_by, zone_of, unit_in, unit_named};
 
 use crate::draft::{Draft, value_in};
 use crate::mapping::{FileForm, Source};
@@ -24,7 +24,7 @@ pub fn file_in(draft: Draft<'_>) -> FileForm
     }
 }
 
-/// The place of the field of a last line that counts the rows before it.
+/// The place, counted from 0, of the field of a last line that counts the rows before it.
 fn count_in(draft: Draft<'_>) -> Option<u16> {
     match number_in(draft, "file", "count", MOST_COLUMNS) {
         Some(number) => Some(number - 1),
@@ -32,7 +32,7 @@ fn count_in(draft: Draft<'_>) -> Option<u16> {
     }
 }
 
-/// The byte between fields.
+/// The byte between fields; a comma if the document names none.
 fn delimiter_in(draft: Draft<'_>) -> u8
     ensures { is_delimiter result ≡ true }
 {
@@ -91,12 +91,12 @@ pub fn common_in(alloc: Global, draft: Draft<'_>) -> Result<Meanings, AllocError
     Ok(all)
 }
 
-/// Whether any other participant has its own name.
+/// Whether a participant that the mapping does not list has the same name on the roster as in the file.
 fn is_same(draft: Draft<'_>) -> bool {
     draft.members("participant").is_none() || draft.text("participant", "*") == Some("same")
 }
 
-/// How times are written.
+/// How times are written: as `HHMMSSn` if the document does not say.
 fn form_in(draft: Draft<'_>) -> TimeForm
     ensures { result ≡ form_in (doc_of draft.entry) }
 {
@@ -125,32 +125,32 @@ fn form_named(text: &str) -> Option<TimeForm>
     }
 }
 
-/// How times are moved.
+/// How times are moved to the clock of the market.
 fn zone_of(draft: Draft<'_>) -> Zone
     ensures zone { result ≡ zone_of (doc_of draft.entry) }
     ensures day { is_in_a_day result ≡ true }
 {
     match draft.text("time", "zone") {
         Some("America/New_York") => Zone::NewYork,
-        Some(_) | None => Zone::Moved(seconds_in(draft)),
-    }
-}
-
-/// By how many seconds times are moved on, over midnight.
-fn seconds_in(draft: Draft<'_>) -> u32
-    ensures seconds { result ≡ seconds_in (doc_of draft.entry) }
-    ensures day { result < 86400 }
-{
-    match draft.text("time", "zone_offset") {
-        Some(text) => match zone_in(text.as_bytes()) {
-            Some(zone) => zone,
-            None => 0,
+        Some(_) | None => match draft.text("time", "zone_offset") {
+            Some(text) => moved_by(text),
+            None => Zone::Unsaid,
         },
-        None => 0,
     }
 }
 
-/// The unit of a price.
+/// The move of times by an offset of a sign and HHMM: they are moved on by its seconds, over midnight.
+fn moved_by(text: &str) -> Zone
+    ensures zone { result ≡ moved_by text.now }
+    ensures day { is_in_a_day result ≡ true }
+{
+    match zone_in(text.as_bytes()) {
+        Some(seconds) => Zone::Moved(seconds),
+        None => Zone::Moved(0),
+    }
+}
+
+/// The unit of prices: dollars if the document names none.
 fn unit_in(draft: Draft<'_>) -> PriceUnit
     ensures { result ≡ unit_in (doc_of draft.entry) }
 {
@@ -183,14 +183,14 @@ fn add_end(alloc: Global, draft: Draft<'_>, words: &mut Vec<Word>) -> Result<(),
     }
 }
 
-/// Adds a word.
+/// Adds a word to a list.
 fn add_word(alloc: Global, text: &str, words: &mut Vec<Word>) -> Result<(), AllocError> {
     let text = Vec::from_slice(alloc, text.as_bytes())?;
     words.push(Word { text })?;
     Ok(())
 }
 
-/// Adds the words at a key.
+/// Adds the words that the document lists at a key.
 pub fn add_words(
     alloc: Global,
     draft: Draft<'_>,
@@ -247,7 +247,7 @@ fn add_replaced(draft: Draft<'_>, replaced: &mut Vec<Replaced>) -> Result<(), Al
     Ok(())
 }
 
-/// The byte of a text that has only one.
+/// The byte of a text of one byte; `None` for any other value.
 pub fn byte_in(value: &Value) -> Option<u8> {
     match value.as_str()?.as_bytes() {
         [byte] => Some(*byte),
@@ -255,7 +255,7 @@ pub fn byte_in(value: &Value) -> Option<u8> {
     }
 }
 
-/// The column at a key; the empty text if the key is absent.
+/// The column at a key of the table `column`. If the key is absent, the column is the empty text in every row.
 pub fn source_at(alloc: Global, draft: Draft<'_>, key: &str) -> Result<Source, AllocError>
     ensures { IfOk result (λ source. is_within source ≡ true) }
 {
@@ -281,7 +281,7 @@ pub(crate) fn source_of(alloc: Global, value: &Value) -> Result<Source, AllocErr
     }
 }
 
-/// The column of which a value says that some bits are read.
+/// The column of which a value selects some bits. For any other value it is the empty text in every row.
 fn bits_of(alloc: Global, value: &Value) -> Result<Source, AllocError>
     ensures { IfOk result (λ source. is_within source ≡ true) }
 {

@@ -15,10 +15,10 @@ use toml::{Table, Value};
 /// The most columns of a file.
 pub(crate) const MOST_COLUMNS: u16 = 1000;
 
-/// The greatest number of bits that are read of a column.
+/// The greatest number that selects bits of a column: all of the lowest 16 bits.
 pub(crate) const MOST_BITS: u16 = 65_535;
 
-/// Whether a value that is no list is right at a key.
+/// Whether a value that is no list has the form that its key requires.
 pub(crate) fn is_right(draft: Draft<'_>, row: &Row, value: &Value) -> bool
     ensures { result ≡ is_right (doc_of draft.entry) (see row.now) (view value.now) }
 {
@@ -160,7 +160,7 @@ fn are_bits_in(header: bool, members: &Table) -> bool
     }
 }
 
-/// Whether a table has one of the keys that a key's words name.
+/// Whether the document has one of the keys that may be in place of a key, or in whose place the key may be.
 pub(crate) fn has_named(draft: Draft<'_>, row: &Row) -> bool
     ensures { result ≡ has_named (doc_of draft.entry) (see row.now) }
 {
@@ -202,7 +202,8 @@ fn is_lot(value: &Value) -> bool
     is_number(MOST_LOT, value) || value.as_str() == Some("setup")
 }
 
-/// Whether a value is the unit of sizes. `shares` may not have a lot. A lot with a wrong value is a separate fault.
+/// Whether a value is a right unit of sizes: `shares` without the key `lot`, or `lots` with it. A lot with a wrong value is a
+/// separate fault.
 fn is_size_unit(draft: Draft<'_>, value: &Value) -> bool
     ensures { result ≡ is_size_unit (doc_of draft.entry) (view value.now) }
 {
@@ -228,14 +229,14 @@ fn has_dates(draft: Draft<'_>) -> bool
     }
 }
 
-/// Whether a document has an offset of times.
+/// Whether a document names an offset from UTC by which times are moved.
 fn has_offset(draft: Draft<'_>) -> bool
     ensures { result ≡ has_offset (doc_of draft.entry) }
 {
     draft.value("time", "zone_offset").is_some()
 }
 
-/// Whether a value is a zone.
+/// Whether a value is an offset from UTC: a sign and HHMM.
 fn is_zone(value: &Value) -> bool
     ensures { result ≡ is_zone (view value.now) }
 {

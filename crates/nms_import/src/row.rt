@@ -1,4 +1,4 @@
-//! What a row makes: `specs/Mapping`.
+//! The change that a row of quotes makes: `specs/Mapping`.
 ghost use Rattle.std.specs.Prelude.{◌≡◌, ◌<◌, true, length, map, IfOk, IfSome, OnOk};
 ghost use Rattle.csv.specs.Records.{fields_of};
 ghost use Rattle.nms_quote.specs.Roster.{Sizes, holds, sizes_of};
@@ -32,7 +32,8 @@ pub fn read_row(
     Ok(entry_with(columns, meanings, roster, row, sym))
 }
 
-/// The symbol that a text names. `scratch` gets the text after the mapping's replacements.
+/// The symbol on the roster that a text names; `None` if the roster lacks it. `scratch` gets the text after the mapping's
+/// replacements.
 pub fn symbol_in(
     meanings: &Meanings,
     roster: &Roster,
@@ -47,7 +48,8 @@ pub fn symbol_in(
     Ok(roster.find_sym(scratch))
 }
 
-/// The change that a row leaves if it makes none, by the cause. `last` is the time of the last change.
+/// The withdrawal that a row leaves if it makes no change for the given cause, if it leaves one. `last` is the time of the last
+/// change, for a row whose own time cannot be read.
 pub fn left_in(
     columns: &Columns,
     meanings: &Meanings,
@@ -64,8 +66,8 @@ pub fn left_in(
     Ok(left_with(columns, meanings, roster, row, cause, sym, last))
 }
 
-/// The change that a row leaves if it makes none, by the cause. Its symbol was looked up on the roster by `symbol_in`, and
-/// `last` is the time of the last change.
+/// The withdrawal that a row leaves if it makes no change for the given cause, if it leaves one. The row's symbol was looked up
+/// on the roster before. `last` is the time of the last change, for a row whose own time cannot be read.
 pub fn left_with(
     columns: &Columns,
     meanings: &Meanings,
@@ -87,8 +89,8 @@ pub fn left_with(
     }
 }
 
-/// The withdrawal of what the row's participant shows of a symbol, which was looked up on the roster by `symbol_in`. `last` is
-/// the time of the last change.
+/// The withdrawal of what the row's participant shows of a symbol, which was looked up on the roster before. `last` is the time
+/// of the last change, for a row whose own time cannot be read.
 fn withdrawal_with(
     columns: &Columns,
     meanings: &Meanings,
@@ -143,7 +145,7 @@ fn replace(pairs: &[Replaced], text: &[u8], out: &mut Vec<u8>) -> Result<(), All
     Ok(())
 }
 
-/// The byte that replaces a byte.
+/// The byte that replaces a byte of a symbol: the byte itself if the mapping does not replace it.
 fn replaced(pairs: &[Replaced], c: u8) -> u8
     ensures { result ≡ replaced pairs.now c }
 {
@@ -155,7 +157,8 @@ fn replaced(pairs: &[Replaced], c: u8) -> u8
     c
 }
 
-/// The entry that a row makes. Its symbol was looked up on the roster by `symbol_in`.
+/// The change that a row makes, with its time, or the first cause why it makes none. The row's symbol was looked up on the
+/// roster before.
 pub fn entry_with(
     columns: &Columns,
     meanings: &Meanings,
@@ -235,7 +238,7 @@ fn meaning_in(meanings: &Meanings, first: &[u8], second: &[u8]) -> Result<Meanin
     }
 }
 
-/// The state of both sides; `None` for no quotation.
+/// The state that a condition gives both sides; `None` if it means no quotation.
 fn state_of(meanings: &Meanings, meaning: Meaning) -> Result<Option<QState>, Cause>
     ensures { result ≡ state_of meanings.now meaning }
 {
@@ -257,7 +260,7 @@ fn half_state(half: Half, side: Side) -> Result<Option<QState>, Cause>
     }
 }
 
-/// Whether only one side is manual.
+/// Whether a condition makes only one side manual.
 fn is_one_sided(meaning: Meaning) -> bool
     ensures { result ≡ is_one_sided meaning }
 {

@@ -39,7 +39,7 @@ impl LineCount {
         })
     }
 
-    /// As `after`, for a text with carriage returns.
+    /// The count after a text with carriage returns. None if there are more lines than a number counts.
     fn after_returns(self, text: &[u8]) -> Option<LineCount> {
         let mut count = self;
         for byte in text {
@@ -58,12 +58,12 @@ struct RowLines {
     last: Vec<u8>,
     /// How many bytes were passed on before the kept ones.
     passed: u64,
-    /// A place among the kept bytes, and the lines before it.
+    /// The place among the kept bytes up to which the lines were counted.
     counted: Cell<usize>,
     lines: Cell<LineCount>,
     /// Whether any carriage return was passed on.
     has_returns: bool,
-    /// How many bytes of the mark are at the start of the file.
+    /// How many of the three bytes of the byte order mark are at the start of the file.
     marked: usize,
     /// The line of the present row, if it begins before the kept bytes.
     begun: Option<u64>,
@@ -115,7 +115,7 @@ impl RowLines {
     fn line_begun(&self) -> Option<u64> {
         let ended = self.ended.get();
         if ended == 0 && 0 < self.marked && self.marked < MARK.len() {
-            // A part of the mark is no mark, but belongs to the first row.
+            // A part of the byte order mark is no mark, but belongs to the first row.
             return Some(1);
         }
         let from = if self.passed <= ended {
@@ -138,8 +138,8 @@ impl RowLines {
         Some(lines)
     }
 
-    /// The place of the first kept byte that belongs to a row, from a place on. Line ends between rows and the mark belong to
-    /// no row.
+    /// The place of the first kept byte that belongs to a row, from a place on. Line ends between rows and the byte order mark
+    /// belong to no row.
     fn start_from(&self, from: usize) -> Option<usize> {
         let mark = MARK.len() as u64;
         let from = if self.marked == MARK.len() && self.passed < mark {
@@ -166,14 +166,15 @@ impl RowLines {
         Some(())
     }
 
-    /// Keeps bytes for which there is room.
+    /// Keeps bytes that were passed on. Room was made for them before.
     fn keep(&mut self, bytes: &[u8]) -> Result<(), AllocError> {
         self.has_returns = self.has_returns || memchr(b'\r', bytes).is_some();
         self.note_mark(bytes);
         self.last.extend_from_slice(bytes)
     }
 
-    /// Notes which of the next bytes of the file belong to the mark. The reader of rows asks for these one by one.
+    /// Notes how many of the next bytes of the file belong to the byte order mark. The reader of rows asks for these one by
+    /// one.
     fn note_mark(&mut self, bytes: &[u8]) {
         if self.marked >= MARK.len() || self.passed != self.marked as u64 {
             return;
@@ -216,7 +217,7 @@ impl<R> RowSource<R> {
         self.lines.line(by_feeds)
     }
 
-    /// The source itself.
+    /// The source of bytes from which the rows came.
     pub fn into_source(self) -> R {
         self.source
     }

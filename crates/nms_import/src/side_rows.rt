@@ -1,4 +1,4 @@
-//! Rows of one side: `specs/SideRows`.
+//! Rows that each quote one side, a bid or an offer: `specs/SideRows`.
 ghost use Rattle.std.specs.Prelude.{◌≡◌, ◌<◌, IfSome, IsSome, is_some, length, true};
 ghost use Rattle.csv.specs.Records.{fields_of};
 ghost use Rattle.nms_quote.specs.Roster.{Listing, holds, sizes_of};
@@ -22,24 +22,24 @@ pub struct SideRow {
     pub part: Part,
     /// The symbol that is quoted.
     pub sym: Sym,
-    /// The row's side.
+    /// The side that the row quotes.
     pub side: Side,
-    /// The state of this side.
+    /// The state that the row gives its side: automated, manual or halted.
     pub state: QState,
     /// The price and the shares; `None` if the participant shows no quotation on this side.
     pub content: Option<SideQuote>,
 }
 
-/// A side that is shown.
+/// The bid or the offer of a participant in a symbol, if it is shown.
 #[derive(Clone, Copy)]
 pub struct OneSide {
     /// The price and the shares.
     pub content: SideQuote,
-    /// The state that the last row of this side said.
+    /// The state of the side: automated, manual or halted.
     pub state: QState,
 }
 
-/// Both sides of a participant in a symbol.
+/// The bid and the offer that a participant shows of a symbol.
 #[derive(Clone, Copy)]
 pub struct Sides {
     /// The bid, if it is shown.
@@ -52,7 +52,7 @@ impl Sides {
     ghost use Rattle.std.specs.Prelude.{◌≡◌};
     ghost use Rattle.nms_import.specs.SideRows.{is_half, no_sides};
 
-    /// Nothing on either side.
+    /// No bid and no offer.
     pub fn none() -> Sides
         ensures { result ≡ no_sides }
     {
@@ -62,7 +62,7 @@ impl Sides {
         }
     }
 
-    /// Whether only one of the sides that are shown is manual.
+    /// Whether both sides are shown, one of them manual and the other automated.
     fn is_half(&self) -> bool
         ensures { result ≡ is_half self.now.bid self.now.offer }
     {
@@ -91,7 +91,7 @@ impl SideRow {
     ghost use Rattle.nms_quote.specs.declared.side_quote.QState.TheVariants.{Automated};
     ghost use Rattle.nms_import.specs.SideRows.{entry_at};
 
-    /// The entry of the row, if its participant then shows these sides.
+    /// A change with the row's time, and whether only one of the sides that the participant then shows is manual.
     pub fn entry(&self, sides: &Sides, change: Change) -> Entry
         ensures { result ≡ entry_at self.now sides.now change }
     {
@@ -102,7 +102,7 @@ impl SideRow {
         }
     }
 
-    /// The withdrawal of what the row's participant shows of its symbol.
+    /// The change that withdraws what the row's participant shows of the row's symbol.
     pub fn withdrawal(&self) -> Change
         ensures { result ≡ change.Quote self.now.part self.now.sym Automated None None }
     {
@@ -116,18 +116,19 @@ impl SideRow {
     }
 }
 
-/// What a row of one side does.
+/// What a row of one side does to the quotation of its participant.
 #[derive(Clone, Copy)]
 pub struct SideStep {
-    /// The entry of the row, or why it has none.
+    /// The change that the row makes, with its time, or why it makes none.
     pub made: Result<Entry, Cause>,
-    /// What it leaves if it has none: a withdrawal, or nothing.
+    /// The withdrawal that a refused row leaves; `None` if the row makes a change, or withdraws nothing.
     pub left: Option<Entry>,
-    /// What its participant then shows of its symbol.
+    /// What the row's participant shows of the symbol after the row.
     pub sides: Sides,
 }
 
-/// What a row does if its participant shows these sides of its symbol. A refused row leaves nothing shown, if it withdraws.
+/// What a row does if its participant showed the given sides of its symbol before. If refused rows withdraw, a refused row
+/// leaves nothing shown.
 pub fn step_of(half: Half, withdraws: bool, sides: &Sides, row: &SideRow) -> SideStep
     ensures made { entry_in result.made ≡ made_as row.now (sides_after sides.now row.now) (quote_after half sides.now row.now) }
     ensures given { given_in result.made result.left ≡ given_as row.now (step_of half withdraws sides.now row.now) }
@@ -155,7 +156,8 @@ pub fn step_of(half: Half, withdraws: bool, sides: &Sides, row: &SideRow) -> Sid
     }
 }
 
-/// What a row says of its side, if each row has one. It was read by its columns as any other row.
+/// What an accepted row says of its side; `None` if the file's rows have both sides. `entry` is the row, read by the columns of
+/// its side.
 pub fn side_said(
     columns: &Columns,
     meanings: &Meanings,
@@ -172,7 +174,7 @@ pub fn side_said(
     }
 }
 
-/// What a change says of a side. It is that of a row, read by columns in which the other side is empty.
+/// What a change says of a side. The change comes from a row of one side, so that its other side is empty.
 pub fn side_row(side: Side, time: u64, change: &Change) -> Option<SideRow>
     ensures row { result ≡ side_row side time change.now }
     ensures there { (roster : Listing) → holds (sizes_of roster) change.now ≡ true → IfSome result (λ row. row.sym < length roster.syms) }
@@ -197,7 +199,7 @@ pub fn side_row(side: Side, time: u64, change: &Change) -> Option<SideRow>
     })
 }
 
-/// The bid or the offer.
+/// The bid or the offer, as the given side says.
 fn content_at(side: Side, bid: Option<SideQuote>, offer: Option<SideQuote>) -> Option<SideQuote>
     ensures { result ≡ content_at side bid offer }
 {
@@ -207,7 +209,7 @@ fn content_at(side: Side, bid: Option<SideQuote>, offer: Option<SideQuote>) -> O
     }
 }
 
-/// Both sides of a participant in a symbol after a row.
+/// The bid and the offer that a row's participant shows of the row's symbol after the row.
 pub fn sides_after(sides: &Sides, row: &SideRow) -> Sides
     ensures { result ≡ sides_after sides.now row.now }
 {
@@ -223,7 +225,7 @@ pub fn sides_after(sides: &Sides, row: &SideRow) -> Sides
     }
 }
 
-/// The side of a row.
+/// The side that a row quotes; `None` if the row shows no quotation on it.
 fn own_side(row: &SideRow) -> Option<OneSide>
     ensures { result ≡ own_side row.now }
 {
@@ -236,7 +238,8 @@ fn own_side(row: &SideRow) -> Option<OneSide>
     }
 }
 
-/// The other side, after a row whose own side has this state.
+/// The side that a row does not quote, after the row. A halted row halts it. After any other row it is not shown if it was
+/// halted.
 fn other_side(own: QState, side: &Option<OneSide>) -> Option<OneSide>
     ensures { result ≡ other_side own side.now }
 {
@@ -252,7 +255,7 @@ fn other_side(own: QState, side: &Option<OneSide>) -> Option<OneSide>
     }
 }
 
-/// The side, if it is not halted.
+/// The given side; `None` if it is halted.
 fn unless_halted(side: &OneSide) -> Option<OneSide>
     ensures { result ≡ unless_halted side.now side.now.state }
 {
@@ -262,14 +265,14 @@ fn unless_halted(side: &OneSide) -> Option<OneSide>
     }
 }
 
-/// The quotation after a row, or why there is none.
+/// The quotation of both sides after a row, or why the row is refused.
 pub fn quote_after(half: Half, sides: &Sides, row: &SideRow) -> Result<Change, Cause>
     ensures { result ≡ quote_after half sides.now row.now }
 {
     quote_of(half, row, &sides_after(sides, row))
 }
 
-/// The quotation of a row's participant with these sides.
+/// The quotation of a row's participant that shows the given sides, or why the row is refused.
 fn quote_of(half: Half, row: &SideRow, sides: &Sides) -> Result<Change, Cause>
     ensures { result ≡ quote_of half row.now sides.now }
 {
@@ -295,7 +298,7 @@ fn content_of(side: &Option<OneSide>) -> Option<SideQuote>
     }
 }
 
-/// The state of the sides that are shown, or that of the row if none is.
+/// The state of the sides that are shown. If none is shown, it is the state that the row gives.
 fn both_state(half: Half, own: QState, sides: &Sides) -> Result<QState, Cause>
     ensures { result ≡ both_state half own sides.now.bid sides.now.offer }
 {
@@ -307,7 +310,8 @@ fn both_state(half: Half, own: QState, sides: &Sides) -> Result<QState, Cause>
     }
 }
 
-/// The state of both sides, if it is one.
+/// The state of a quotation whose two sides have the given states. The mapping decides if one is manual and the other
+/// automated.
 fn agreed(half: Half, bid: QState, offer: QState) -> Result<QState, Cause>
     ensures { result ≡ agreed half bid offer }
 {
@@ -324,7 +328,7 @@ fn agreed(half: Half, bid: QState, offer: QState) -> Result<QState, Cause>
     }
 }
 
-/// The state of both sides, if only this one is manual.
+/// The state of both sides if only the given side is manual, or the cause if the mapping refuses such a row.
 fn half_as(half: Half, side: Side) -> Result<QState, Cause>
     ensures { result ≡ half_as half side }
 {

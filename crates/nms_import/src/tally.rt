@@ -10,9 +10,9 @@ pub const MOST_ROWS: u64 = 1_000_000_000_000;
 /// How many rows had each outcome.
 #[derive(Clone, Copy)]
 pub struct Tally {
-    /// Rows that made a change, except the `halves`.
+    /// Rows that made a change, except those with only one manual side.
     pub wholes: u64,
-    /// Rows that made a change, though only one side is manual, which no record says.
+    /// Rows that made a change though only one side is manual. No record can say that, so the mapping chose one state for both.
     pub halves: u64,
     /// Refused: fewer columns than the mapping names.
     pub too_few_columns: u64,
@@ -38,7 +38,7 @@ pub struct Tally {
     pub returned: u64,
     /// Skipped: the last line of a file.
     pub trailer: u64,
-    /// Skipped: a word that the mapping lists.
+    /// Skipped: a word that the mapping lists among those to skip.
     pub listed: u64,
     /// Skipped: a symbol that is not on the roster.
     pub other_symbol: u64,

@@ -25,20 +25,20 @@ use std::io::Write;
 pub struct Telling {
     /// The allocator.
     pub alloc: Global,
-    /// As lines for people, or as JSON.
+    /// The form of the output: lines for people, or JSON.
     pub form: Form,
     /// How the mapping says that times are written.
     pub time_form: TimeForm,
-    /// How it says that they are moved.
+    /// How the mapping says that times are moved to the clock of the market.
     pub zone: Zone,
-    /// What the mapping says that prices count.
+    /// The unit of prices that the mapping names.
     pub price_unit: PriceUnit,
 }
 
 impl Telling {
     ghost use Rattle.std.specs.Prelude.{◌≡◌};
 
-    /// In a form, of a file whose texts have these meanings.
+    /// How rows are shown in a form, for a file whose texts have the given meanings.
     pub fn new(alloc: Global, form: Form, meanings: &Meanings) -> Telling
         ensures { result.form ≡ form }
     {
@@ -52,10 +52,10 @@ impl Telling {
     }
 }
 
-/// Where rows that make no change are shown.
+/// The output on which rows that make no change are shown.
 #[derive(Drop)]
 pub struct Told<'a, E> {
-    /// The writer on which they are shown.
+    /// The writer on which the rows are shown.
     pub errors: E,
     telling: Telling,
     file: &'a str,
@@ -69,7 +69,8 @@ impl<'a, E: Write> Told<'a, E> {
     ghost use Rattle.nms_show.specs.Written.{AddsPart};
     ghost use Rattle.nms_import.specs.Telling.{file_of, left_after, left_of, most_of};
 
-    /// On a writer, in no file yet. As JSON all refused rows are shown, else the first 100 that make no change.
+    /// An output on a writer, before the first file. As JSON all refused rows are shown, else the first 100 rows that make no
+    /// change.
     pub fn new(telling: Telling, errors: E) -> Told<'a, E>
         ensures writer { result.errors ≡ errors }
         ensures file { file_of result ≡ [] }
@@ -138,7 +139,7 @@ impl<'a, E: Write> Told<'a, E> {
         );
     }
 
-    /// Shows a row whose symbol came again after its end, as `tell` shows others.
+    /// Shows a row that is refused because its symbol came again after its end: its file, line, column and text, and the cause.
     pub fn tell_returned(&mut self, columns: &Columns, row: &ByteRecord)
         ensures safe { AddsPart IsSafe (E.contents self.old.errors) (E.contents self.new.errors) }
         ensures few { left_of self.old ≡ 0 → self.new ≡ self.old }
@@ -160,7 +161,7 @@ impl<'a, E: Write> Told<'a, E> {
         );
     }
 
-    /// Shows a row whose symbol does not have the form of one, as `tell` shows others.
+    /// Shows a row whose symbol is not 1 to 8 capital letters, digits and points. As JSON a row that is skipped is not shown.
     pub fn tell_unformed(&mut self, columns: &Columns, row: &ByteRecord, cause: Cause)
         ensures safe { AddsPart IsSafe (E.contents self.old.errors) (E.contents self.new.errors) }
         ensures few { left_of self.old ≡ 0 → self.new ≡ self.old }
@@ -207,13 +208,13 @@ impl<'a, E: Write> Told<'a, E> {
 /// The place at which a row begins.
 #[derive(Clone, Copy)]
 pub struct RowPlace<'a> {
-    /// The name of its file.
+    /// The name of the row's file.
     pub file: &'a str,
-    /// Its line, counted from 1.
+    /// The line of the file on which the row begins, counted from 1.
     pub line: u64,
     /// The allocator.
     pub alloc: Global,
-    /// As a line for people, or as JSON.
+    /// The form of the output: a line for people, or JSON.
     pub form: Form,
 }
 
@@ -276,14 +277,14 @@ fn object<W: Write>(
     write_object(alloc, out, members)
 }
 
-/// What becomes of a row, or that something is remarked of it.
+/// The word for what becomes of a row. It is `remark` for a row that is shown only with a remark.
 fn what_or_remark(what: &str) -> &str
     ensures { is_plain what.now ≡ true → is_plain result.now ≡ true }
 {
     if what.is_empty() { "remark" } else { what }
 }
 
-/// A text, or none if another one is empty.
+/// The second text, or the empty text if the first one is empty.
 fn if_any(other: &str, text: &'static str) -> &'static str
     ensures { is_plain text.now ≡ true → is_plain result.now ≡ true }
 {
@@ -301,14 +302,14 @@ pub fn most_of(telling: Telling) -> u64
     }
 }
 
-/// The text, or an empty one if there is no place.
+/// The given text, or the empty text if no column of the row is shown.
 fn if_placed(place: u64, text: &'static str) -> &'static str
     ensures { is_plain text.now ≡ true → is_plain result.now ≡ true }
 {
     if place == 0 { "" } else { text }
 }
 
-/// The item for a place, or an empty one if there is none.
+/// The number of the column that is shown, counted from 1. It is absent if no column of the row is shown.
 fn item_of_place(place: u64) -> Item<'static>
     ensures { is_own_plain result ≡ true }
 {
@@ -343,17 +344,32 @@ fn outcome_of(cause: Cause) -> &'static str
     if cause.skips() { "skipped" } else { "refused" }
 }
 
-/// What a time is that is none of a form and a zone.
+/// The words for a text that is no time of the given form and zone.
 pub fn no_time(form: TimeForm, zone: Zone) -> &'static str
     ensures { is_plain result.now ≡ true }
 {
     match zone {
+        Zone::Unsaid => no_local_time(form),
         Zone::Moved(_) => no_time_of(form),
         Zone::NewYork => no_dated_time(form),
     }
 }
 
-/// What a time of a form is that is none.
+/// The words for a text that is no time of the given form, if the mapping has no zone. A time that counts from UTC needs a
+/// zone.
+fn no_local_time(form: TimeForm) -> &'static str
+    ensures { is_plain result.now ≡ true }
+{
+    match form {
+        TimeForm::Clock | TimeForm::Colons | TimeForm::Seconds => no_time_of(form),
+        TimeForm::UnixNanoseconds | TimeForm::UnixMicroseconds | TimeForm::UnixMilliseconds =>
+            "a time since 1970, which needs a zone in the mapping: zone = \"America/New_York\", or zone_offset",
+        TimeForm::Iso =>
+            "no date and time as 2024-01-02T09:30:00; with an offset it needs a zone in the mapping: zone = \"America/New_York\", or zone_offset",
+    }
+}
+
+/// The words for a text that is no time of the given form.
 fn no_time_of(form: TimeForm) -> &'static str
     ensures { is_plain result.now ≡ true }
 {
@@ -368,7 +384,8 @@ fn no_time_of(form: TimeForm) -> &'static str
     }
 }
 
-/// The same of the years whose time in New York is read. A form without a date has none.
+/// The words for a text that is no time of the given form in the years 2007 to 2099, for the zone of New York. A form without a
+/// date has no such time.
 fn no_dated_time(form: TimeForm) -> &'static str
     ensures { is_plain result.now ≡ true }
 {
@@ -381,7 +398,7 @@ fn no_dated_time(form: TimeForm) -> &'static str
     }
 }
 
-/// What a bid is that has no price in a unit.
+/// The words for a bid whose text is no price in the given unit.
 fn no_bid(unit: PriceUnit) -> &'static str
     ensures { is_plain result.now ≡ true }
 {
@@ -392,7 +409,7 @@ fn no_bid(unit: PriceUnit) -> &'static str
     }
 }
 
-/// What an offer is that has no price in a unit.
+/// The words for an offer whose text is no price in the given unit.
 fn no_offer(unit: PriceUnit) -> &'static str
     ensures { is_plain result.now ≡ true }
 {
@@ -403,7 +420,7 @@ fn no_offer(unit: PriceUnit) -> &'static str
     }
 }
 
-/// What a cause says.
+/// The words for the cause why a row makes no change.
 pub fn sentence_of(telling: Telling, cause: Cause) -> &'static str
     ensures { is_plain result.now ≡ true }
 {
@@ -565,7 +582,7 @@ fn write_span<W: Write>(
     )
 }
 
-/// The name of a symbol, which is empty if it is not of the roster.
+/// The name of a symbol. It is empty if the symbol is not on the roster.
 fn shown_name(roster: &Roster, sym: Sym) -> &str
     ensures { is_plain result.now ≡ true }
 {
@@ -583,7 +600,7 @@ fn write_items<W: Write>(out: &mut W, items: &[Item<'_>]) -> Result<(), ShowFaul
     write_line(out, Form::Text { colours: false }, items)
 }
 
-/// Writes a line, of which an import says the fault.
+/// Writes a line. An error of the writer, or of memory, becomes a fault of the import.
 fn line<W: Write>(out: &mut W, items: &[Item<'_>]) -> Result<(), ImportFault>
     ensures { list_all is_own_plain items.now ≡ true → Writes IsSafe (W.contents out.old) (W.contents out.new) result }
 {

@@ -4,7 +4,7 @@ ghost use Rattle.nms_units.specs.Digits.{by_point, point_in};
 ghost use Rattle.nms_units.specs.Price.{both};
 ghost use Rattle.nms_import.specs.Forms.{zone_in};
 ghost use Rattle.nms_import.specs.Mapping.{time_of};
-ghost use Rattle.nms_import.specs.Times.{clock_at, clock_digits, clock_number, clock_of, colons_number, days_of, fraction, has_colons, has_date, has_sign, hours_at, in_new_york, instant_from, instant_number, is_behind, is_clock, is_from_end, is_between, is_part_of_day, is_past, is_summer, iso_number, iso_zoned, midnight_number, number_within, over_midnight, since_march, zoned, microseconds, milliseconds, minutes_at, nanoseconds, only_if, point_and_fraction, seconds, second_at, seconds_and_fraction, seconds_at, seconds_number, to_utc, two_at, utc_number, whole_seconds, without_colon, zone_length};
+ghost use Rattle.nms_import.specs.Times.{clock_at, clock_digits, clock_number, clock_of, colons_number, day_at, day_in, day_of, days_of, fraction, has_colons, has_date, has_sign, hours_at, in_new_york, instant_from, instant_number, is_behind, is_clock, is_from_end, is_between, is_part_of_day, is_past, is_summer, iso_number, iso_zoned, local, midnight_number, number_within, over_midnight, since_march, zoned, microseconds, milliseconds, minutes_at, nanoseconds, new_york_zone, only_if, point_and_fraction, says_zone, seconds, second_at, seconds_and_fraction, seconds_at, seconds_number, to_utc, two_at, utc_number, whole_seconds, without_colon, zone_length};
 ghost use Rattle.nms_import.specs.Imported.{fifteen_digits, line_of, numbered_line, time_line};
 
 use crate::cause::Cause;
@@ -17,7 +17,7 @@ use std::alloc::AllocError;
 static PAIRS: [u8; 200] =
     *b"00010203040506070809101112131415161718192021222324252627282930313233343536373839404142434445464748495051525354555657585960616263646566676869707172737475767778798081828384858687888990919293949596979899";
 
-/// A time of day as digits, `HHMMSSnnnnnnnnn`.
+/// The time of day that a text of the file gives, as digits `HHMMSSnnnnnnnnn`.
 pub(crate) fn time_in(meanings: &Meanings, text: &[u8]) -> Result<u64, Cause>
     ensures { result ≡ time_of meanings.now text.now }
 {
@@ -27,51 +27,123 @@ pub(crate) fn time_in(meanings: &Meanings, text: &[u8]) -> Result<u64, Cause>
     }
 }
 
-/// A time of day in a form, as digits `HHMMSSnnnnnnnnn`, moved by a zone.
+/// The time of day that a text of the given form gives, as digits `HHMMSSnnnnnnnnn`, after it is moved by a zone.
 pub fn clock_of(form: TimeForm, zone: Zone, text: &[u8]) -> Option<u64>
     ensures { result ≡ clock_of form zone text.now }
 {
     match form {
         TimeForm::Clock => clock_within(text),
-        TimeForm::Seconds => zoned(zone, seconds_in(text)?),
+        TimeForm::Seconds => local(zone, seconds_in(text)?),
         TimeForm::UnixNanoseconds => zoned(zone, parse_digits(text, 19)?),
         TimeForm::UnixMicroseconds => zoned(zone, microseconds(text)?),
         TimeForm::UnixMilliseconds => zoned(zone, milliseconds(text)?),
-        TimeForm::Colons => zoned(zone, colons_in(text)?),
+        TimeForm::Colons => local(zone, colons_in(text)?),
         TimeForm::Iso => iso_zoned(zone, text),
     }
 }
 
-/// The time of day of nanoseconds since 1970, or after a midnight, moved by a zone.
+/// The time of day of nanoseconds after a midnight. They are moved by a zone, if there is one.
+fn local(zone: Zone, nanos: u64) -> Option<u64>
+    ensures { result ≡ local zone nanos }
+{
+    match zone {
+        Zone::Unsaid => Some(clock_at(0, nanos)),
+        Zone::Moved(_) | Zone::NewYork => zoned(zone, nanos),
+    }
+}
+
+/// The time of day of nanoseconds since 1970, moved by a zone. Without a zone there is none, because the clock of the market is
+/// not known.
 fn zoned(zone: Zone, nanos: u64) -> Option<u64>
     ensures { result ≡ zoned zone nanos }
 {
     match zone {
+        Zone::Unsaid => None,
         Zone::Moved(seconds) => Some(clock_at(seconds, nanos)),
         Zone::NewYork => in_new_york(nanos),
     }
 }
 
-/// The time of day of a date and a time, moved by a zone. The date is read only if the zone has a summer time.
+/// The time of day of a date and a time, moved by a zone. The date is read only if the zone has a summer time. Without a zone the
+/// time may not say how far it is from UTC.
 fn iso_zoned(zone: Zone, text: &[u8]) -> Option<u64>
     ensures { result ≡ iso_zoned zone text.now }
 {
     match zone {
+        Zone::Unsaid => {
+            if says_zone(text) {
+                None
+            } else {
+                Some(clock_at(0, iso_in(text)?))
+            }
+        }
         Zone::Moved(seconds) => Some(clock_at(seconds, iso_in(text)?)),
         Zone::NewYork => in_new_york(instant_in(text)?),
     }
+}
+
+/// Whether a time after a date ends in a `Z` or an offset from UTC.
+fn says_zone(text: &[u8]) -> bool
+    ensures { result ≡ says_zone text.now }
+{
+    text.len() > 11 && zone_length(&text[11..]) != 0
 }
 
 /// New York's time of day at an instant of the years 2007 to 2099, in nanoseconds since 1970.
 fn in_new_york(nanos: u64) -> Option<u64>
     ensures { result ≡ in_new_york nanos }
 {
-    let second = nanos / 1_000_000_000;
+    let zone = new_york_zone(nanos / 1_000_000_000)?;
+    Some(clock_at(zone, nanos))
+}
+
+/// The seconds by which New York's clock is moved on from UTC, across midnight, at a second since 1970 of the years 2007 to 2099.
+fn new_york_zone(second: u64) -> Option<u32>
+    ensures { result ≡ new_york_zone second }
+{
     if second < 1_167_609_600 || 4_102_444_800 <= second {
         return None;
     }
-    let zone = if is_summer(second) { 72_000 } else { 68_400 };
-    Some(clock_at(zone, nanos))
+    if is_summer(second) {
+        Some(72_000)
+    } else {
+        Some(68_400)
+    }
+}
+
+/// The day on which a text of the given form is, by the clock of a zone. Days are counted from one that depends on the zone only,
+/// so that those of one file can be compared. A form without a date says none, and neither does a date before 2007 or after 2099.
+pub fn day_of(form: TimeForm, zone: Zone, text: &[u8]) -> Option<u64>
+    ensures { result ≡ day_of form zone text.now }
+{
+    match form {
+        TimeForm::Clock | TimeForm::Seconds | TimeForm::Colons => None,
+        TimeForm::UnixNanoseconds => day_in(zone, parse_digits(text, 19)?),
+        TimeForm::UnixMicroseconds => day_in(zone, microseconds(text)?),
+        TimeForm::UnixMilliseconds => day_in(zone, milliseconds(text)?),
+        TimeForm::Iso => day_in(zone, instant_in(text)?),
+    }
+}
+
+/// The day of an instant in nanoseconds since 1970, by the clock of a zone.
+fn day_in(zone: Zone, nanos: u64) -> Option<u64>
+    ensures { result ≡ day_in zone nanos }
+{
+    match zone {
+        Zone::Unsaid => Some(day_at(0, nanos)),
+        Zone::Moved(seconds) => Some(day_at(seconds, nanos)),
+        Zone::NewYork => {
+            let zone = new_york_zone(nanos / 1_000_000_000)?;
+            Some(day_at(zone, nanos))
+        }
+    }
+}
+
+/// The days up to an instant in nanoseconds since 1970, after it is moved on by the seconds of a zone.
+fn day_at(zone: u32, nanos: u64) -> u64
+    ensures { result ≡ day_at zone nanos }
+{
+    (nanos / 1_000_000_000 + u64::from(zone)) / 86_400
 }
 
 /// Whether New York has summer time at a second since 1970.
@@ -92,7 +164,8 @@ fn is_between(second: u64) -> bool
     is_past(7, day) && !is_past(245, day)
 }
 
-/// Whether the last Sunday is at least this number of days after the last 1 March.
+/// Whether the last Sunday up to a day is at least the given number of days after the last 1 March. The day is counted from 1
+/// March 1968.
 fn is_past(days: u64, day: u64) -> bool
     requires few { days < 1000 }
     requires early { day < 1000000 }
@@ -101,7 +174,7 @@ fn is_past(days: u64, day: u64) -> bool
     days + (day + 5) % 7 <= since_march(day)
 }
 
-/// How many days after a 1 March a day is, which is counted from that of 1968.
+/// How many days a day is after the last 1 March. The day itself is counted from 1 March 1968.
 fn since_march(day: u64) -> u64
     requires { day < 1000000 }
     ensures { result ≡ since_march day }
@@ -130,7 +203,8 @@ fn instant_from(midnight: Option<u64>, text: &[u8]) -> Option<u64>
     Some(midnight + after - over_midnight(text))
 }
 
-/// The nanoseconds by which a time that was taken to UTC over midnight is too late: a day for a zone that is not behind UTC.
+/// The nanoseconds by which a time that was moved to UTC across midnight is too late. They are a day for an offset that is not
+/// behind UTC, else 0.
 fn over_midnight(text: &[u8]) -> u64
     ensures over { result ≡ over_midnight text.now }
     ensures day { result ≤ 86400000000000 }
@@ -151,7 +225,7 @@ fn is_behind(zone: &[u8]) -> bool
     zone[0] == b'-' && is_part_of_day(to_utc(zone))
 }
 
-/// Whether there are nanoseconds, and less than a day.
+/// Whether a number of nanoseconds is given, and is less than a day.
 fn is_part_of_day(nanos: Option<u64>) -> bool
     ensures { result ≡ is_part_of_day nanos }
 {
@@ -177,7 +251,7 @@ fn midnight_in(text: &[u8]) -> Option<u64>
     Some((days_of(year, month, day) - 671) * 86_400_000_000_000)
 }
 
-/// A number of at most this number of digits, if it is within two others.
+/// The number that a text gives, if it has at most the given number of digits, and is from `least` to `most`.
 fn number_within(text: &[u8], digits: usize, least: u64, most: u64) -> Option<u64>
     requires { digits < 10 }
     ensures number { result ≡ number_within digits least most text.now }
@@ -205,7 +279,7 @@ fn days_of(year: u64, month: u64, day: u64) -> u64
     (year * 12 + month - 23_619) / 12 * 1461 / 4 + (153 * ((month + 9) % 12) + 2) / 5 + day - 1
 }
 
-/// Six digits and up to nine after them, if they are a time of day.
+/// The time of day of six digits and up to nine after them; `None` if they are no time of day.
 fn clock_within(text: &[u8]) -> Option<u64>
     ensures { result ≡ only_if is_clock (clock_number text.now) }
 {
@@ -213,7 +287,7 @@ fn clock_within(text: &[u8]) -> Option<u64>
     if is_clock(time) { Some(time) } else { None }
 }
 
-/// Six digits and up to nine after them as one number of 15.
+/// Six digits and up to nine after them, as one number of 15 digits.
 fn clock_in(text: &[u8]) -> Option<u64>
     ensures { result ≡ clock_number text.now }
 {
@@ -225,7 +299,7 @@ fn clock_in(text: &[u8]) -> Option<u64>
     Some(second + after)
 }
 
-/// The digits HHMMSS before nine others.
+/// The six digits HHMMSS, as a number of 15 digits that has nine zeros after them.
 fn seconds(text: &[u8]) -> Option<u64>
     ensures seconds { result ≡ seconds text.now }
     ensures high { IfSome result (λ n. n < 1000000000000000) }
@@ -271,7 +345,7 @@ fn clock_at(zone: u32, nanos: u64) -> u64
     clock_digits(second) + nanos % 1_000_000_000
 }
 
-/// The digits HHMMSS of a second of the day, before nine other digits.
+/// The digits HHMMSS of a second of the day, as a number of 15 digits that has nine zeros after them.
 fn clock_digits(second: u64) -> u64
     requires { second < 86400 }
     ensures digits { result ≡ clock_digits second }
@@ -298,7 +372,7 @@ fn milliseconds(text: &[u8]) -> Option<u64>
     Some(number * 1_000_000)
 }
 
-/// Seconds after midnight, as nanoseconds.
+/// The seconds after midnight that a text gives, as nanoseconds; `None` for a day or more.
 fn seconds_in(text: &[u8]) -> Option<u64>
     ensures { result ≡ seconds_number text.now }
 {
@@ -310,7 +384,7 @@ fn seconds_in(text: &[u8]) -> Option<u64>
     }
 }
 
-/// A text of up to five digits, and at most a point with up to nine digits, as nanoseconds.
+/// The seconds of a text of up to five digits, and at most a point with up to nine digits, as nanoseconds.
 fn any_seconds_in(text: &[u8]) -> Option<u64>
     ensures { result ≡ by_point seconds_and_fraction text.now (whole_seconds text.now) }
 {
@@ -324,7 +398,7 @@ fn any_seconds_in(text: &[u8]) -> Option<u64>
     }
 }
 
-/// The place of the first point.
+/// The place of the first point in a text, counted from 0.
 pub(crate) fn point_in(text: &[u8]) -> Option<usize>
     ensures place { result ≡ point_in text.now }
     ensures within { IfSome result (λ point. point < length text.now) }
@@ -332,7 +406,7 @@ pub(crate) fn point_in(text: &[u8]) -> Option<usize>
     text.iter().position(|c| *c == b'.')
 }
 
-/// A text of up to five digits, as nanoseconds.
+/// The seconds that a text of up to five digits gives, as nanoseconds.
 fn whole_seconds(text: &[u8]) -> Option<u64>
     ensures seconds { result ≡ whole_seconds text.now }
     ensures high { IfSome result (λ n. n < 1000000000000000) }
@@ -389,7 +463,7 @@ fn zone_length(text: &[u8]) -> usize
     }
 }
 
-/// Whether the last bytes begin with a plus or a minus.
+/// Whether the last n bytes of a text begin with a plus or a minus.
 fn has_sign(text: &[u8], bytes: usize) -> bool
     requires { 0 < bytes }
     ensures sign { result ≡ has_sign bytes text.now }
@@ -398,7 +472,7 @@ fn has_sign(text: &[u8], bytes: usize) -> bool
     is_from_end(text, bytes, b'+') || is_from_end(text, bytes, b'-')
 }
 
-/// Whether the last bytes begin with a byte.
+/// Whether the last n bytes of a text begin with the given byte.
 fn is_from_end(text: &[u8], bytes: usize, c: u8) -> bool
     requires { 0 < bytes }
     ensures byte { result ≡ is_from_end bytes c text.now }
@@ -431,7 +505,7 @@ fn offset_in(zone: &[u8]) -> Option<u32>
     }
 }
 
-/// A time after it is moved on by a shift, which may be absent.
+/// A time after it is moved on by a shift, both in nanoseconds; `None` if the shift is absent.
 fn shifted(time: u64, shift: Option<u64>) -> Option<u64>
     requires small { time < 1500000000000000000 }
     requires few { IfSome shift (λ n. n < 100000000000000) }
@@ -444,7 +518,7 @@ fn shifted(time: u64, shift: Option<u64>) -> Option<u64>
     }
 }
 
-/// The nanoseconds of hours, minutes and seconds.
+/// The hours, minutes and seconds of a text `HH:MM:SS`, as nanoseconds.
 fn second_at(text: &[u8]) -> Option<u64>
     requires { 8 ≤ length text.now }
     ensures second { result ≡ second_at text.now }
@@ -456,7 +530,7 @@ fn second_at(text: &[u8]) -> Option<u64>
     Some(hours + minutes + seconds)
 }
 
-/// The sum of a number and one that may be absent.
+/// The sum of two numbers; `None` if the second one is absent.
 fn plus(number: u64, other: Option<u64>) -> Option<u64>
     requires small { number < 300000000000000 }
     requires few { IfSome other (λ n. n < 1000000000000000000) }
@@ -469,7 +543,7 @@ fn plus(number: u64, other: Option<u64>) -> Option<u64>
     }
 }
 
-/// Whether there are eight bytes with two colons.
+/// Whether a text has at least eight bytes, and colons where `HH:MM:SS` has them.
 fn has_colons(text: &[u8]) -> bool
     ensures colons { result ≡ has_colons text.now }
     ensures long { result ≡ true → 8 ≤ length text.now }
@@ -477,7 +551,7 @@ fn has_colons(text: &[u8]) -> bool
     text.len() >= 8 && text[2] == b':' && text[5] == b':'
 }
 
-/// Whether there are eleven bytes, and the last of them may be between a date and a time of day.
+/// Whether a text has at least eleven bytes, of which the eleventh is a `T` or a blank, as after a date.
 fn has_date(text: &[u8]) -> bool
     ensures date { result ≡ has_date text.now }
     ensures long { result ≡ true → 11 ≤ length text.now }
@@ -485,7 +559,7 @@ fn has_date(text: &[u8]) -> bool
     text.len() >= 11 && (text[10] == b'T' || text[10] == b' ')
 }
 
-/// The number of two digits.
+/// The number that the two digits at a place of a text give.
 fn two_at(text: &[u8], place: usize) -> Option<u64>
     requires { place + 2 ≤ length text.now }
     ensures two { result ≡ two_at place text.now }
@@ -494,7 +568,7 @@ fn two_at(text: &[u8], place: usize) -> Option<u64>
     parse_digits(&text[place..place + 2], 2)
 }
 
-/// The hours, as nanoseconds.
+/// The hours of a text `HH:MM:SS`, as nanoseconds; `None` if they are above 23.
 fn hours_at(text: &[u8]) -> Option<u64>
     requires { 8 ≤ length text.now }
     ensures hours { result ≡ hours_at text.now }
@@ -508,7 +582,7 @@ fn hours_at(text: &[u8]) -> Option<u64>
     }
 }
 
-/// The minutes, as nanoseconds.
+/// The minutes of a text `HH:MM:SS`, as nanoseconds; `None` if they are above 59.
 fn minutes_at(text: &[u8]) -> Option<u64>
     requires { 8 ≤ length text.now }
     ensures minutes { result ≡ minutes_at text.now }
@@ -522,7 +596,7 @@ fn minutes_at(text: &[u8]) -> Option<u64>
     }
 }
 
-/// The seconds, as nanoseconds.
+/// The seconds of a text `HH:MM:SS`, as nanoseconds; `None` if they are above 59.
 fn seconds_at(text: &[u8]) -> Option<u64>
     requires { 8 ≤ length text.now }
     ensures seconds { result ≡ seconds_at text.now }
@@ -536,7 +610,7 @@ fn seconds_at(text: &[u8]) -> Option<u64>
     }
 }
 
-/// The nanoseconds of a point and one to nine digits, or of nothing.
+/// The nanoseconds of a point and one to nine digits after it. They are 0 for an empty text.
 fn point_and_fraction(text: &[u8]) -> Option<u64>
     ensures fraction { result ≡ point_and_fraction text.now }
     ensures high { IfSome result (λ n. n < 1000000000000000000) }
@@ -551,7 +625,8 @@ fn point_and_fraction(text: &[u8]) -> Option<u64>
     }
 }
 
-/// Appends the line of a time. If `numbers` is set, it has the number of the row. After an error a prefix of it may be there.
+/// Appends a line with a time of day, and with the number of its row if `numbers` is set. After an error a prefix of the line
+/// may be there.
 pub fn append_line(out: &mut Vec<u8>, numbers: bool, row: u64, time: u64) -> Result<(), AllocError>
     ensures { OnOk result (out.new.items ≡ out.old.items ++ line_of numbers row time) }
 {

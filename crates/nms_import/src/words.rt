@@ -42,7 +42,7 @@ pub fn side_in(sides: &Option<SideWords>, text: &[u8]) -> Option<Side>
     }
 }
 
-/// Whether each row has one side, and a row's text for it names none.
+/// Whether a row lacks its side: each row should have one side, and the row's text for it names none.
 pub(crate) fn lacks_side(sides: &Option<SideWords>, text: &[u8]) -> bool
     ensures { result ≡ lacks_side sides.now text.now }
 {
@@ -52,7 +52,7 @@ pub(crate) fn lacks_side(sides: &Option<SideWords>, text: &[u8]) -> bool
     }
 }
 
-/// The name on the roster for a word of the file.
+/// The name that a participant has on the roster, for the word that the file has for it.
 pub fn name_of<'a>(meanings: &'a Meanings, word: &'a [u8]) -> Option<&'a [u8]>
     ensures { option_map (λ name. name.now) result ≡ name_of meanings.now word.now }
 {
@@ -63,7 +63,7 @@ pub fn name_of<'a>(meanings: &'a Meanings, word: &'a [u8]) -> Option<&'a [u8]>
     }
 }
 
-/// The place of the entry of a word.
+/// The place of a word in the list of participants that have another name on the roster.
 fn place_of(names: &[Renamed], word: &[u8]) -> Option<usize>
     ensures { result ≡ position (λ it. bytes_eq it.word.items word.now) names.now }
 {
@@ -76,7 +76,7 @@ fn is_renamed(it: &Renamed, word: &[u8]) -> bool
     it.word.as_slice() == word
 }
 
-/// The place of the condition of two texts.
+/// The place, in the mapping's list of conditions, of the condition that two texts make together.
 pub(crate) fn place_said(said: &[Said], first: &[u8], second: &[u8]) -> Option<usize>
     ensures { result ≡ position (λ it. is_joined first.now second.now it.word.items) said.now }
 {

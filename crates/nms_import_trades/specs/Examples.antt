@@ -1,11 +1,13 @@
--- Worked examples of the definitions of mappings of trades. The right-hand sides are worked out by hand.
-use Rattle.std.specs.Prelude.{◌≡◌, ℕ, codes, List, true, false, Option, Some, None}
+-- Worked examples of the definitions of mappings of trades, and of days. The right-hand sides are worked out by hand.
+use Rattle.std.specs.Prelude.{◌≡◌, ℕ, codes, List, true, false, Option, Some, None, Err}
 use Rattle.toml.specs.Data.{Members, member, no_members, string, table}
 use Rattle.nms_import.specs.declared.column.Column.{Column}
 use Rattle.nms_import.specs.declared.column.Column.TheVariants as column
 use Rattle.nms_import_trades.specs.declared.trade_columns.TradeColumns.{TradeColumns}
 use Rattle.nms_import_trades.specs.TradeMap.{says_trades}
 use Rattle.nms_import_trades.specs.TradePlacing.{width_of}
+use Rattle.nms_import_trades.specs.TradeRow.{day_after, is_other}
+use Rattle.nms_import_trades.specs.declared.trade_cause.TradeCause.TheVariants as cause
 
 -- [file] kind = ".."
 abbrev pub of_kind : List ℕ → Members
@@ -39,3 +41,8 @@ pub record ExamplesHold : Type 0 where
   pub nine_columns_are_needed : width_of (nine_columns None) ≡ 9
   pub the_name_stands_last : width_of (nine_columns (Some (column.At 9))) ≡ 10
   pub the_name_stands_first : width_of (nine_columns (Some (column.At 0))) ≡ 9
+  pub another_date : is_other (Some 19724) (Some 19725) ≡ true
+  pub the_same_date : is_other (Some 19724) (Some 19724) ≡ false
+  pub no_date : is_other (Some 19724) None ≡ false
+  pub the_first_day_stays : day_after (Some 19724) (Err cause.OtherDay) ≡ Some 19724
+  pub no_day_without_an_execution : day_after None (Err cause.BadPrice) ≡ None

@@ -11,7 +11,7 @@ use Rattle.nms_import.specs.Mapping.{column_text}
 use Rattle.nms_trades.specs.FinePrice.{fine_text}
 use Rattle.nms_trades.specs.declared.execution.Deal.{Deal}
 use Rattle.nms_trades.specs.declared.execution.Deal.TheVariants as deal
-use Rattle.nms_import_trades.specs.TradeRow.{id_text, is_claimed, lacks_reason, trade_of}
+use Rattle.nms_import_trades.specs.TradeRow.{day_after, id_text, is_claimed, lacks_reason, made_on}
 use Rattle.nms_import_trades.specs.declared.claim.Claim.{Claim}
 use Rattle.nms_import_trades.specs.declared.claim.Flag.{Flag}
 use Rattle.nms_import_trades.specs.declared.claim.Flag.TheVariants as flag
@@ -66,23 +66,29 @@ abbrev pub record_in : TradeColumns → TradeMeanings → Listing → ℕ → Re
 record_in columns mapping roster number row (Ok trade) = execution_record columns mapping roster number row trade ∷ []
 record_in columns mapping roster number row (Err why) = []
 
--- the records of rows, in order; the first of the rows has this number
-abbrev pub records_from : TradeColumns → TradeMeanings → Listing → ℕ → List Record → List Record
-records_from columns mapping roster number [] = []
-records_from columns mapping roster number (row ∷ rows) =
-    record_in columns mapping roster number row (trade_of columns mapping roster row)
-    ++ records_from columns mapping roster (number + 1) rows
+-- the records of rows, in order; the first of the rows has this number; executions before them were of this day
+abbrev pub records_from : TradeColumns → TradeMeanings → Listing → Option ℕ → ℕ → List Record → List Record
+records_from columns mapping roster day number [] = []
+records_from columns mapping roster day number (row ∷ rows) =
+    record_in columns mapping roster number row (made_on day columns mapping roster row)
+    ++ records_from columns mapping roster (day_after day (made_on day columns mapping roster row)) (number + 1) rows
+
+-- the day of the executions after them
+abbrev pub day_from : TradeColumns → TradeMeanings → Listing → Option ℕ → List Record → Option ℕ
+day_from columns mapping roster day [] = day
+day_from columns mapping roster day (row ∷ rows) =
+    day_from columns mapping roster (day_after day (made_on day columns mapping roster row)) rows
 
 -- their text
-abbrev pub executions_text : TradeColumns → TradeMeanings → Listing → ℕ → List Record → List ℕ
-executions_text columns mapping roster number rows = text_of (records_from columns mapping roster number rows)
+abbrev pub executions_text : TradeColumns → TradeMeanings → Listing → Option ℕ → ℕ → List Record → List ℕ
+executions_text columns mapping roster day number rows = text_of (records_from columns mapping roster day number rows)
 
 -- the rows that were refused, of all causes
 abbrev pub refused_in : TradeTally → ℕ
 refused_in tally =
     tally.too_few_columns + tally.bad_name + tally.bad_time + tally.unknown_participant + tally.unknown_symbol + tally.bad_price
     + tally.bad_shares + tally.unknown_side + tally.unknown_condition + tally.unknown_mark
-    + tally.unknown_word
+    + tally.unknown_word + tally.other_day
 
 -- the rows that were skipped, of all causes
 abbrev pub skipped_in : TradeTally → ℕ

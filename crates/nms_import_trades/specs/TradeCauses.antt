@@ -16,6 +16,7 @@ is_skipped cause.UnknownSide = false
 is_skipped cause.UnknownCondition = false
 is_skipped cause.UnknownMark = false
 is_skipped cause.UnknownWord = false
+is_skipped cause.OtherDay = false
 is_skipped cause.Trailer = true
 is_skipped cause.Listed = true
 is_skipped cause.NoTrade = true

@@ -1,7 +1,7 @@
 -- What a mapping makes of a row of a vendor's trades: an execution, or the first cause why it makes none. This product's own
 -- rule.
 use Rattle.std.specs.Prelude.{ℕ, ◌*◌, ◌/◌, ◌%◌, ◌==◌, ◌&&◌, ◌||◌, Bool, true, false, not, List, length}
-use Rattle.std.specs.Prelude.{nat_le, nat_lt, Option, Some, None, option_map, Result, Ok, Err, if◌then◌else◌}
+use Rattle.std.specs.Prelude.{nat_eq, nat_le, nat_lt, Option, Some, None, option_map, Result, Ok, Err, if◌then◌else◌}
 use Rattle.std.specs.Fmt.{decimal}
 use Rattle.std.specs.List.{list_all, list_any}
 use Rattle.nms_units.specs.Digits.{number_in}
@@ -10,7 +10,7 @@ use Rattle.nms_lines.specs.Layout.{Record, field}
 use Rattle.nms_lines.specs.Numbers.{above_zero, shares_number}
 use Rattle.nms_lines.specs.Sides.{is_empty}
 use Rattle.nms_import.specs.Mapping.{column_text, is_listed, name_of, symbol_in, without_zeros}
-use Rattle.nms_import.specs.Times.{clock_of}
+use Rattle.nms_import.specs.Times.{clock_of, day_of}
 use Rattle.nms_import.specs.declared.column.Column.{Column}
 use Rattle.nms_import.specs.declared.meanings.Meanings.{Meanings}
 use Rattle.nms_import.specs.declared.meanings.PriceUnit.{PriceUnit}
@@ -185,4 +185,40 @@ trade_of columns mapping roster line = do
   dealt ← deal_of mapping (column_text columns.side line)
   known ← stop_if (not (list_all (is_known mapping) (column_text columns.condition line))) cause.UnknownCondition
   marked ← mark_of mapping (column_text columns.exempt line)
-  Ok (record { time = time; part = part; sym = sym; millionths = price; shares = shares; deal = dealt; marked = marked })
+  Ok (record {
+    time = time;
+    day = day_of mapping.common.time_form mapping.common.zone (column_text columns.time line);
+    part = part;
+    sym = sym;
+    millionths = price;
+    shares = shares;
+    deal = dealt;
+    marked = marked;
+  })
+
+-- ---- days: a time of day says nothing of the date, so all executions have to be of one
+
+-- two dates that are not the same
+abbrev pub is_other : Option ℕ → Option ℕ → Bool
+is_other (Some day) (Some other) = not (nat_eq day other)
+is_other (Some day) None = false
+is_other None other = false
+
+-- a row of another day is refused
+abbrev pub only_on : Option ℕ → Result Trade TradeCause → Result Trade TradeCause
+only_on day (Ok trade) = if is_other day trade.day then Err cause.OtherDay else Ok trade
+only_on day (Err why) = Err why
+
+-- what a row makes after executions of a day
+abbrev pub made_on : Option ℕ → TradeColumns → TradeMeanings → Listing → Record → Result Trade TradeCause
+made_on day columns mapping roster row = only_on day (trade_of columns mapping roster row)
+
+-- the first day that is known
+abbrev pub first_of : Option ℕ → Option ℕ → Option ℕ
+first_of (Some day) other = Some day
+first_of None other = other
+
+-- the day of the first execution, after what a row makes
+abbrev pub day_after : Option ℕ → Result Trade TradeCause → Option ℕ
+day_after day (Ok trade) = first_of day trade.day
+day_after day (Err why) = day

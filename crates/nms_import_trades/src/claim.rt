@@ -3,7 +3,7 @@ ghost use Rattle.std.specs.Prelude.{◌≡◌};
 ghost use Rattle.nms_import_trades.specs.Executions.{flag_letter};
 ghost use Rattle.nms_import_trades.specs.TradeRow.{is_exempt, is_reason};
 
-/// A flag of an execution. `trades` reads its letter.
+/// A flag of an execution, which is written as one letter. The command `trades` reads that letter.
 #[derive(Clone, Copy)]
 pub enum Flag {
     /// `C`: not regular way (17 CFR 242.611(b)(2)).
@@ -33,7 +33,7 @@ pub enum Flag {
 pub struct Claim {
     /// The flag.
     pub flag: Flag,
-    /// The letters.
+    /// The letters of a condition that claim the flag, one byte each.
     pub letters: Vec<u8>,
 }
 

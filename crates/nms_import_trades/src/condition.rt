@@ -28,7 +28,7 @@ pub(crate) fn is_no_trade(meanings: &TradeMeanings, condition: &[u8]) -> bool
     any_stands(&meanings.no_trade, condition)
 }
 
-/// Whether any of these letters is one of those.
+/// Whether two lists of letters have a letter in common.
 fn any_stands(those: &[u8], these: &[u8]) -> bool
     ensures { result ≡ list_any (has_letter those.now) these.now }
 {
@@ -81,7 +81,7 @@ fn gives_reason(condition: &[u8], it: &Claim) -> bool
     it.flag.is_reason() && claims_it(condition, it)
 }
 
-/// Whether a flag is written.
+/// Whether a flag is written for an execution. A letter of the condition claims it, or it marks an exemption without a reason.
 fn is_claimed(condition: &[u8], unexplained: bool, it: &Claim) -> bool
     ensures { result ≡ is_claimed condition.now unexplained it.now }
 {

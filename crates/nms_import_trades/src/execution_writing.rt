@@ -21,7 +21,8 @@ use nms_trades::{Deal, push_millionths};
 use nms_units::Shares;
 use std::alloc::AllocError;
 
-/// Appends the record of an execution that the row with a number makes. `flags` is room that a caller keeps from row to row.
+/// Appends the record of the execution that a row makes. `number` is the row's number among the rows of all files, counted from
+/// 1. `flags` is room that a caller keeps from row to row.
 pub(crate) fn append_execution(
     out: &mut Vec<u8>,
     columns: &TradeColumns,
@@ -47,7 +48,7 @@ pub(crate) fn append_execution(
     end_record(out)
 }
 
-/// Appends the kind of a record.
+/// Appends `D`, the kind of the record of an execution.
 fn push_kind(out: &mut Vec<u8>) -> Result<(), AllocError>
     ensures { OnOk result (out.new.items ≡ out.old.items ++ codes "D") }
 {
@@ -94,14 +95,14 @@ fn push_shares(out: &mut Vec<u8>, shares: Shares) -> Result<(), AllocError>
     push_number(out, u64::from(shares.get()))
 }
 
-/// Appends a comma and the side.
+/// Appends a comma and the side: `B` for a purchase, `S` for a sale, and nothing if the side is not known.
 fn push_deal(out: &mut Vec<u8>, deal: Option<Deal>) -> Result<(), AllocError>
     ensures { OnOk result (out.new.items ≡ out.old.items ++ 44 ∷ deal_text deal) }
 {
     push_text(out, deal_text(deal))
 }
 
-/// Appends a comma and the exchange on which it was executed.
+/// Appends a comma and the name of the exchange on which the trade was executed. The name is empty for a trade off an exchange.
 fn push_venue(out: &mut Vec<u8>, roster: &Roster, part: Option<Part>) -> Result<(), AllocError>
     ensures { OnOk result (out.new.items ≡ out.old.items ++ 44 ∷ venue_text roster.now part) }
 {
@@ -125,7 +126,7 @@ fn push_flags(
     append_flags(out, &meanings.claims, condition, marked, flags)
 }
 
-/// The word for a purchase or a sale.
+/// The letter for a purchase, `B`, or for a sale, `S`. It is empty if the side is not known.
 fn deal_text(deal: Option<Deal>) -> &'static str
     ensures { result.now ≡ deal_text deal }
 {
@@ -136,7 +137,7 @@ fn deal_text(deal: Option<Deal>) -> &'static str
     }
 }
 
-/// The name of the exchange on which it was executed.
+/// The name of the exchange on which a trade was executed. It is empty for a trade off an exchange.
 fn venue_text(roster: &Roster, part: Option<Part>) -> &str
     ensures { result.now ≡ venue_text roster.now part }
 {

@@ -6,14 +6,15 @@ ghost use Rattle.csv.specs.declared.parser.Config.{Config};
 ghost use Rattle.nms_lines.specs.Layout.{Record};
 ghost use Rattle.nms_lines.specs.Text.{text_of};
 ghost use Rattle.nms_import.specs.Rows.{AreAllRows, RowsFrom, unread};
-ghost use Rattle.nms_import_trades.specs.Executions.{execution_record, executions_text, records_from, rows_in};
+ghost use Rattle.nms_import_trades.specs.Executions.{day_from, execution_record, executions_text, records_from, rows_in};
+ghost use Rattle.nms_import_trades.specs.TradeRow.{day_after, made_on};
 
 use crate::execution_writing::append_execution;
 use crate::trade::Trade;
 use crate::trade_cause::TradeCause;
 use crate::trade_columns::TradeColumns;
 use crate::trade_meanings::TradeMeanings;
-use crate::trade_row::read_trade;
+use crate::trade_row::{first_of, only_on, read_trade};
 use crate::trade_tally::TradeTally;
 use crate::trade_telling::TradeTold;
 use csv::{ByteRecord, Reader};
@@ -23,30 +24,34 @@ use nms_quote::Roster;
 use std::alloc::Global;
 use std::io::{Read, Write};
 
-/// Room that is kept from row to row.
+/// The memory that an import of trades keeps from row to row.
 #[derive(Drop)]
 pub struct TradeWork {
     /// The present row.
     pub row: ByteRecord,
     /// What is known about the last lines of files.
     pub lasts: LastLines,
+    /// The day of the first execution, if it has a date. A row of another day is refused.
+    pub day: Option<u64>,
     scratch: Vec<u8>,
     flags: Vec<u8>,
     text: Vec<u8>,
 }
 
 impl TradeWork {
-    ghost use Rattle.std.specs.Prelude.{◌≡◌, []};
+    ghost use Rattle.std.specs.Prelude.{◌≡◌, [], None};
     ghost use Rattle.csv.specs.Records.{fields_of};
 
     /// Room for a row. It takes no memory before the first row. `count` is the place of the count in the last line of a file,
     /// counted from 0.
     pub fn new(alloc: Global, count: Option<u16>) -> TradeWork
-        ensures { fields_of result.row ≡ [] }
+        ensures row { fields_of result.row ≡ [] }
+        ensures day { result.day ≡ None }
     {
         TradeWork {
             row: ByteRecord::new(alloc),
             lasts: LastLines::new(count),
+            day: None,
             scratch: Vec::new(alloc),
             flags: Vec::new(alloc),
             text: Vec::new(alloc),
@@ -55,7 +60,8 @@ impl TradeWork {
 }
 
 /// Imports the rows of trades that a reader still has. It writes the records of the executions that they make, in order, and
-/// counts every outcome. The counts, and the numbers of the rows, go on from those of earlier files.
+/// counts every outcome. The counts, and the numbers of the rows, go on from those of earlier files. All executions are of the
+/// day of the first one: if rows have dates, those of another day are refused.
 ///
 /// After an error a prefix of the text was written. The writer is not flushed.
 pub fn import_trades<R: Read, W: Write, E: Write>(
@@ -70,9 +76,10 @@ pub fn import_trades<R: Read, W: Write, E: Write>(
 ) -> Result<(), ImportFault>
     ensures written { (config : Config) (bytes : Option (List ℕ)) (seen : List Record) → RowsFrom config (unread R.remaining) reader.old bytes seen
         → OnOk result ((rows : List Record) × AreAllRows config bytes (seen ++ rows)
-        × Appends (W.contents executions.old) (W.contents executions.new) (executions_text columns.now meanings.now roster.now (rows_in tally.old + 1) rows)
+        × Appends (W.contents executions.old) (W.contents executions.new) (executions_text columns.now meanings.now roster.now work.old.day (rows_in tally.old + 1) rows)
         × (rows_in tally.new ≡ rows_in tally.old + length rows)
-        × (tally.new.executions ≡ tally.old.executions + length (records_from columns.now meanings.now roster.now (rows_in tally.old + 1) rows))) }
+        × (tally.new.executions ≡ tally.old.executions + length (records_from columns.now meanings.now roster.now work.old.day (rows_in tally.old + 1) rows))
+        × (work.new.day ≡ day_from columns.now meanings.now roster.now work.old.day rows)) }
 {
     let Some(sums) = tally.sums() else {
         return Err(ImportFault::TooLong);
@@ -96,7 +103,7 @@ pub fn import_trades<R: Read, W: Write, E: Write>(
     Err(ImportFault::TooLong)
 }
 
-/// Imports the present row, which has a number.
+/// Imports the present row. `number` is its number among the rows of all files, counted from 1.
 fn import_trade<W: Write, E: Write>(
     columns: &TradeColumns,
     meanings: &TradeMeanings,
@@ -109,14 +116,18 @@ fn import_trade<W: Write, E: Write>(
 ) -> Result<(), ImportFault>
     requires few { rows_in tally.old < 1000000000000 }
     ensures executions { OnOk result (Appends (W.contents executions.old) (W.contents executions.new)
-        (executions_text columns.now meanings.now roster.now number (fields_of work.old.row ∷ []))) }
+        (executions_text columns.now meanings.now roster.now work.old.day number (fields_of work.old.row ∷ []))) }
     ensures rows { OnOk result (rows_in tally.new ≡ rows_in tally.old + 1) }
     ensures counted { OnOk result (tally.new.executions
-        ≡ tally.old.executions + length (records_from columns.now meanings.now roster.now number (fields_of work.old.row ∷ []))) }
+        ≡ tally.old.executions + length (records_from columns.now meanings.now roster.now work.old.day number (fields_of work.old.row ∷ []))) }
+    ensures day { OnOk result (work.new.day
+        ≡ day_after work.old.day (made_on work.old.day columns.now meanings.now roster.now (fields_of work.old.row))) }
 {
-    match read_trade(columns, meanings, roster, &work.row, &mut work.scratch)? {
+    let made = read_trade(columns, meanings, roster, &work.row, &mut work.scratch)?;
+    match only_on(work.day, made) {
         Ok(trade) => {
             tally.count_execution();
+            work.day = first_of(work.day, trade.day);
             write_trade(columns, meanings, roster, number, &trade, work, executions)
         }
         Err(cause) => {
@@ -140,8 +151,9 @@ fn write_trade<W: Write>(
     work: &mut TradeWork,
     executions: &mut W,
 ) -> Result<(), ImportFault>
-    ensures { OnOk result (Appends (W.contents executions.old) (W.contents executions.new)
+    ensures record { OnOk result (Appends (W.contents executions.old) (W.contents executions.new)
         (text_of (execution_record columns.now meanings.now roster.now number (fields_of work.old.row) trade.now ∷ []))) }
+    ensures day { work.new.day ≡ work.old.day }
 {
     work.text.clear();
     append_execution(

@@ -1,14 +1,16 @@
-//! The content of an accepted row.
+//! The execution that an accepted row of a file of trades makes.
 use nms_quote::{Part, Sym};
 use nms_trades::Deal;
 use nms_units::Shares;
 
-/// The content of an accepted row, except its name and its condition.
+/// The execution that an accepted row makes, without its name and its condition.
 #[derive(Clone, Copy)]
 pub struct Trade {
     /// The time of day as digits, `HHMMSSnnnnnnnnn`.
     pub time: u64,
-    /// The exchange on which it was executed; `None` off an exchange.
+    /// The day, if the row has a date: `nms_import::day_of`.
+    pub day: Option<u64>,
+    /// The exchange on which the trade was executed; `None` for a trade off an exchange.
     pub part: Option<Part>,
     /// The symbol that was traded.
     pub sym: Sym,
@@ -16,8 +18,8 @@ pub struct Trade {
     pub millionths: u64,
     /// The shares, at least 1.
     pub shares: Shares,
-    /// Whether it bought or sold, if the row says so.
+    /// Whether the trade was a purchase or a sale; `None` if the row does not say.
     pub deal: Option<Deal>,
-    /// Whether it is marked exempt.
+    /// Whether the row marks the trade exempt.
     pub marked: bool,
 }

@@ -20,14 +20,16 @@ pub enum TradeCause {
     BadPrice,
     /// The shares are not a number of 1 to 9 digits, or are zero.
     BadShares,
-    /// The mapping lists no such side.
+    /// The mapping does not list the row's word for its side.
     UnknownSide,
-    /// The mapping lists no such letter of a condition.
+    /// The row's condition has a letter that the mapping does not list.
     UnknownCondition,
-    /// The mapping lists no such mark of an exempt trade.
+    /// The mapping does not list the row's mark of an exempt trade.
     UnknownMark,
     /// The mapping lists words of rows to keep. The row's word is neither among them nor among those to skip.
     UnknownWord,
+    /// The row's date is not that of the first execution.
+    OtherDay,
     /// The row is the last line of the file, as the mapping says: `END|20240102|..`.
     Trailer,
     /// The mapping lists the row's word among those to skip.
@@ -54,7 +56,8 @@ impl TradeCause {
             | TradeCause::UnknownSide
             | TradeCause::UnknownCondition
             | TradeCause::UnknownMark
-            | TradeCause::UnknownWord => false,
+            | TradeCause::UnknownWord
+            | TradeCause::OtherDay => false,
             TradeCause::Trailer
             | TradeCause::Listed
             | TradeCause::NoTrade

@@ -10,13 +10,13 @@ use std::alloc::Global;
 
 /// The columns that a mapping reads, in one file.
 pub struct TradeColumns {
-    /// How many columns a row needs: one more than the greatest place.
+    /// How many columns a row needs: one more than the greatest place, counted from 0, of a column that is read.
     pub width: usize,
-    /// The name of the execution; `None` for the number of the row.
+    /// The name of the execution; `None` if the number of the row is its name.
     pub id: Option<Column>,
     /// The time of day.
     pub time: Column,
-    /// The exchange on which it was executed.
+    /// The exchange on which the trade was executed.
     pub participant: Column,
     /// The symbol that was traded.
     pub symbol: Column,
@@ -24,17 +24,18 @@ pub struct TradeColumns {
     pub price: Column,
     /// The shares.
     pub shares: Column,
-    /// Whether it bought or sold.
+    /// Whether the trade was a purchase or a sale.
     pub side: Column,
     /// The letters of the condition.
     pub condition: Column,
     /// The mark of an exempt trade.
     pub exempt: Column,
-    /// The text by which a row is skipped.
+    /// The text that says whether a row is skipped. The mapping lists the words to skip, and may list the words to keep.
     pub skip: Column,
 }
 
-/// It has its own `Drop`, so that a function that holds one has one call at each exit, and not one for each part (docs/GATE.md).
+/// The columns have their own `Drop`. A function that holds them has one call at each exit, and not one for each column
+/// (docs/GATE.md).
 impl Drop for TradeColumns {
     fn drop(self) {
         let TradeColumns {
@@ -54,7 +55,7 @@ impl Drop for TradeColumns {
 }
 
 impl TradeColumns {
-    /// Columns without a name, which are all the empty text.
+    /// Columns that read nothing: each gives the empty text in every row, and none is for the execution's name.
     pub(crate) fn none(alloc: Global) -> TradeColumns
         ensures { result.width ≡ 0 }
     {
@@ -74,7 +75,7 @@ impl TradeColumns {
     }
 }
 
-/// Whether a row has a name of an execution.
+/// Whether a row has a name that an execution may have. Without a column for names, the number of the row is its name.
 pub(crate) fn has_name(id: &Option<Column>, row: &ByteRecord) -> bool
     ensures { result ≡ has_name id.now (fields_of row.now) }
 {

@@ -39,7 +39,8 @@ struct TradeSources {
     skip: Source,
 }
 
-/// It has its own `Drop`, so that a function that holds one has one call at each exit, and not one for each part (docs/GATE.md).
+/// The columns have their own `Drop`. A function that holds them has one call at each exit, and not one for each column
+/// (docs/GATE.md).
 impl Drop for TradeSources {
     fn drop(self) {
         let TradeSources {
@@ -62,7 +63,7 @@ impl Drop for TradeSources {
 pub struct TradeMapping {
     /// How the file is laid out.
     pub file: FileForm,
-    /// What the texts mean.
+    /// What the texts of the file mean.
     pub meanings: TradeMeanings,
     sources: TradeSources,
 }
@@ -103,7 +104,7 @@ impl TradeMapping {
     }
 }
 
-/// The place of the name of an execution, if the mapping has a column for it.
+/// The place of the column with the name of an execution, if the mapping has such a column.
 fn place_of_id(
     alloc: Global,
     source: &Option<Source>,
@@ -251,7 +252,7 @@ fn add_all_claims(
     add_claims(alloc, draft, &flags, claims)
 }
 
-/// Adds flags, each with the letters at its key.
+/// Adds flags, each with the letters that the document lists at the flag's key.
 fn add_claims(
     alloc: Global,
     draft: Draft<'_>,
@@ -269,7 +270,7 @@ fn add_claims(
     Ok(())
 }
 
-/// Adds the letters at a key.
+/// Adds the letters that the document lists at a key of the table `flags`.
 fn add_letters(draft: Draft<'_>, key: &str, letters: &mut Vec<u8>) -> Result<(), AllocError> {
     for value in draft.items("flags", key) {
         if let Some(letter) = byte_in(value) {
@@ -279,7 +280,8 @@ fn add_letters(draft: Draft<'_>, key: &str, letters: &mut Vec<u8>) -> Result<(),
     Ok(())
 }
 
-/// Adds the letters at a key that claim no flag, and are none of the others. A mapping without fault has no others there.
+/// Adds the letters at a key of the table `flags`, except those that claim a flag or are in another list. A mapping without
+/// fault has no such letters there.
 fn add_others(
     draft: Draft<'_>,
     key: &str,
@@ -300,7 +302,7 @@ fn add_others(
     Ok(())
 }
 
-/// Adds a letter, unless it claims a flag or is one of the others.
+/// Adds a letter to a list, unless the letter claims a flag or is in another list.
 fn add_other(
     claims: &[Claim],
     those: &[u8],

@@ -4,18 +4,18 @@ use nms_import::{Meanings, Word};
 
 /// What the texts of a file of trades mean.
 pub struct TradeMeanings {
-    /// Times, the unit of prices, names, symbols, the last line and the words to skip, as for quotes. A participant's name may
-    /// be empty, which means off an exchange.
+    /// The meanings that files of quotes have too: times, the unit of prices, names, symbols, the last line and the words to
+    /// skip. A participant's name may be empty, which means off an exchange.
     pub common: Meanings,
     /// The words for a purchase.
     pub bought: Vec<Word>,
     /// The words for a sale.
     pub sold: Vec<Word>,
-    /// The words for neither of these.
+    /// The words that name neither a purchase nor a sale.
     pub neither: Vec<Word>,
     /// Each flag with the letters of a condition that claim it.
     pub claims: Vec<Claim>,
-    /// The letters that claim nothing.
+    /// The letters of a condition that claim no flag.
     pub nothing: Vec<u8>,
     /// The letters of rows that are no trades, and are skipped.
     pub no_trade: Vec<u8>,
@@ -27,7 +27,8 @@ pub struct TradeMeanings {
     pub unmarked: Vec<Word>,
 }
 
-/// It has its own `Drop`, so that a function that holds one has one call at each exit, and not one for each part (docs/GATE.md).
+/// The meanings have their own `Drop`. A function that holds them has one call at each exit, and not one for each part
+/// (docs/GATE.md).
 impl Drop for TradeMeanings {
     fn drop(self) {
         let TradeMeanings {

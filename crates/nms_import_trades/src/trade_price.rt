@@ -6,7 +6,7 @@ use nms_import::{PriceUnit, without_zeros};
 use nms_trades::{MOST_MILLIONTHS, millionths_in};
 use nms_units::parse_digits;
 
-/// A price in 1/1,000,000 dollar, above zero.
+/// The price that a text gives in a unit, in 1/1,000,000 dollar. It is above zero.
 pub(crate) fn millionths_of(unit: PriceUnit, text: &[u8]) -> Option<u64>
     ensures { result ≡ millionths_of unit text.now }
 {
@@ -23,7 +23,7 @@ pub(crate) fn millionths_of(unit: PriceUnit, text: &[u8]) -> Option<u64>
     }
 }
 
-/// A price, if an execution may have it.
+/// A price in 1/1,000,000 dollar, if an execution may have it: above zero, and at most 9,999,999.999999 dollars.
 fn in_range(number: u64) -> Option<u64>
     ensures { result ≡ in_range (Some number) }
 {

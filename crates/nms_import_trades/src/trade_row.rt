@@ -2,7 +2,7 @@
 ghost use Rattle.std.specs.Prelude.{◌≡◌, IfOk};
 ghost use Rattle.csv.specs.Records.{fields_of};
 ghost use Rattle.nms_import.specs.Mapping.{column_text, symbol_in};
-ghost use Rattle.nms_import_trades.specs.TradeRow.{deal_of, is_unknown_word, mark_of, no_symbol, trade_of, venue_of};
+ghost use Rattle.nms_import_trades.specs.TradeRow.{deal_of, first_of, is_other, is_unknown_word, mark_of, no_symbol, only_on, trade_of, venue_of};
 
 use crate::condition::{are_known, is_no_trade};
 use crate::trade::Trade;
@@ -11,7 +11,7 @@ use crate::trade_columns::{TradeColumns, has_name};
 use crate::trade_meanings::TradeMeanings;
 use crate::trade_price::millionths_of;
 use csv::ByteRecord;
-use nms_import::{Meanings, clock_of, is_listed, name_of, symbol_in, without_zeros};
+use nms_import::{Meanings, clock_of, day_of, is_listed, name_of, symbol_in, without_zeros};
 use nms_lines::{field_at, some_shares_of};
 use nms_quote::{Part, Roster, Sym};
 use nms_trades::Deal;
@@ -31,7 +31,7 @@ pub fn read_trade(
     Ok(trade_with(columns, meanings, roster, row, sym))
 }
 
-/// The execution that a row makes, after its symbol was looked up.
+/// The execution that a row makes, or the first cause why it makes none. The row's symbol was looked up on the roster before.
 fn trade_with(
     columns: &TradeColumns,
     meanings: &TradeMeanings,
@@ -81,6 +81,7 @@ fn trade_with(
     let marked = mark_of(meanings, columns.exempt.text(row))?;
     Ok(Trade {
         time,
+        day: day_of(common.time_form, common.zone, columns.time.text(row)),
         part,
         sym,
         millionths,
@@ -90,7 +91,43 @@ fn trade_with(
     })
 }
 
-/// Whether the mapping lists words of rows to keep, and the word is none of them.
+/// The execution that a row makes, if it is not on another day than the first one. `day` is the day of the first execution, if
+/// there was one that has a date.
+pub(crate) fn only_on(
+    day: Option<u64>,
+    made: Result<Trade, TradeCause>,
+) -> Result<Trade, TradeCause>
+    ensures { result ≡ only_on day made }
+{
+    let trade = made?;
+    if is_other(day, trade.day) {
+        Err(TradeCause::OtherDay)
+    } else {
+        Ok(trade)
+    }
+}
+
+/// The day of the first execution: the first of two days, if it is given.
+pub(crate) fn first_of(day: Option<u64>, other: Option<u64>) -> Option<u64>
+    ensures { result ≡ first_of day other }
+{
+    match day {
+        Some(day) => Some(day),
+        None => other,
+    }
+}
+
+/// Whether both days are given, and are not the same.
+fn is_other(day: Option<u64>, other: Option<u64>) -> bool
+    ensures { result ≡ is_other day other }
+{
+    match (day, other) {
+        (Some(day), Some(other)) => day != other,
+        (Some(_), None) | (None, _) => false,
+    }
+}
+
+/// Whether the mapping lists the words of rows to keep, and a row's word is none of them.
 fn is_unknown_word(meanings: &TradeMeanings, text: &[u8]) -> bool
     ensures { result ≡ is_unknown_word meanings.now text.now }
 {
@@ -128,7 +165,7 @@ fn no_symbol(meanings: &Meanings) -> TradeCause
     }
 }
 
-/// Whether a trade bought or sold.
+/// Whether a trade was a purchase or a sale; `None` if the row does not say.
 fn deal_of(meanings: &TradeMeanings, text: &[u8]) -> Result<Option<Deal>, TradeCause>
     ensures { result ≡ deal_of meanings.now text.now }
 {

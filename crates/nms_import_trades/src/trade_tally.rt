@@ -26,15 +26,17 @@ pub struct TradeTally {
     pub bad_shares: u64,
     /// Refused: a side that the mapping does not list.
     pub unknown_side: u64,
-    /// Refused: a letter that the mapping does not list.
+    /// Refused: a letter of a condition that the mapping does not list.
     pub unknown_condition: u64,
-    /// Refused: a mark that the mapping does not list.
+    /// Refused: a mark of an exempt trade that the mapping does not list.
     pub unknown_mark: u64,
     /// Refused: a word of the column `skip` that the mapping does not list.
     pub unknown_word: u64,
+    /// Refused: a date that is not that of the first execution.
+    pub other_day: u64,
     /// Skipped: the last line of a file.
     pub trailer: u64,
-    /// Skipped: a word that the mapping lists.
+    /// Skipped: a word that the mapping lists among those to skip.
     pub listed: u64,
     /// Skipped: a row that is no trade.
     pub no_trade: u64,
@@ -74,6 +76,7 @@ impl TradeTally {
             unknown_condition: 0,
             unknown_mark: 0,
             unknown_word: 0,
+            other_day: 0,
             trailer: 0,
             listed: 0,
             no_trade: 0,
@@ -108,6 +111,7 @@ impl TradeTally {
             TradeCause::UnknownCondition => self.unknown_condition += 1,
             TradeCause::UnknownMark => self.unknown_mark += 1,
             TradeCause::UnknownWord => self.unknown_word += 1,
+            TradeCause::OtherDay => self.other_day += 1,
             TradeCause::Trailer => self.trailer += 1,
             TradeCause::Listed => self.listed += 1,
             TradeCause::NoTrade => self.no_trade += 1,
@@ -133,6 +137,7 @@ impl TradeTally {
             self.unknown_condition,
             self.unknown_mark,
             self.unknown_word,
+            self.other_day,
         ])?;
         let skipped = sum_of(&[self.trailer, self.listed, self.no_trade, self.other_symbol])?;
         let executions = self.executions;

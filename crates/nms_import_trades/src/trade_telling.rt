@@ -16,7 +16,7 @@ use std::io::Write;
 /// The output on which rows that make no execution are shown.
 #[derive(Drop)]
 pub struct TradeTold<'a, E> {
-    /// The writer on which they are shown.
+    /// The writer on which the rows are shown.
     pub errors: E,
     telling: Telling,
     file: &'a str,
@@ -29,7 +29,8 @@ impl<'a, E: Write> TradeTold<'a, E> {
     ghost use Rattle.nms_import.specs.Telling.{most_of};
     ghost use Rattle.nms_import_trades.specs.TradeTelling.{file_of, left_of};
 
-    /// On a writer, in no file yet. As JSON all refused rows are shown, else the first 100 that make no execution.
+    /// An output on a writer, before the first file. As JSON all refused rows are shown, else the first 100 rows that make no
+    /// execution.
     pub fn new(telling: Telling, errors: E) -> TradeTold<'a, E>
         ensures writer { result.errors ≡ errors }
         ensures file { file_of result ≡ [] }
@@ -94,7 +95,7 @@ fn column_of(columns: &TradeColumns, cause: TradeCause) -> Option<&Column> {
     match cause {
         TradeCause::TooFewColumns | TradeCause::Trailer => None,
         TradeCause::BadName => columns.id.as_ref(),
-        TradeCause::BadTime => Some(&columns.time),
+        TradeCause::BadTime | TradeCause::OtherDay => Some(&columns.time),
         TradeCause::UnknownParticipant => Some(&columns.participant),
         TradeCause::UnknownSymbol | TradeCause::OtherSymbol => Some(&columns.symbol),
         TradeCause::BadPrice => Some(&columns.price),
@@ -106,7 +107,7 @@ fn column_of(columns: &TradeColumns, cause: TradeCause) -> Option<&Column> {
     }
 }
 
-/// What a price is that is none in a unit.
+/// The words for a text that is no price in the given unit.
 fn no_price(unit: PriceUnit) -> &'static str {
     match unit {
         PriceUnit::Dollars => "no price above zero in dollars with at most six decimals",
@@ -115,7 +116,7 @@ fn no_price(unit: PriceUnit) -> &'static str {
     }
 }
 
-/// What a cause says.
+/// The words for the cause why a row makes no execution.
 fn sentence_of(telling: Telling, cause: TradeCause) -> &'static str {
     match cause {
         TradeCause::TooFewColumns => "fewer columns than the mapping names",
@@ -130,6 +131,7 @@ fn sentence_of(telling: Telling, cause: TradeCause) -> &'static str {
         TradeCause::UnknownCondition => "a condition with a letter that the mapping does not list",
         TradeCause::UnknownMark => "a mark of an exempt trade that the mapping does not list",
         TradeCause::UnknownWord => "a word that the mapping lists neither to skip nor to keep",
+        TradeCause::OtherDay => "not on the day of the first execution",
         TradeCause::Trailer => "the last line of the file",
         TradeCause::Listed => "a word that the mapping skips",
         TradeCause::NoTrade => "a condition with a letter of rows that are no trades",
@@ -162,7 +164,7 @@ pub fn write_trade_tally<W: Write>(
 }
 
 /// The counts that have their own lines, each with its text.
-fn counts_of(tally: &TradeTally) -> [(u64, &'static str); 15]
+fn counts_of(tally: &TradeTally) -> [(u64, &'static str); 16]
     ensures { list_all (λ count. is_plain count.1.now) result ≡ true }
 {
     [
@@ -177,6 +179,7 @@ fn counts_of(tally: &TradeTally) -> [(u64, &'static str); 15]
         (tally.unknown_condition, " refused: unknown condition"),
         (tally.unknown_mark, " refused: unknown mark"),
         (tally.unknown_word, " refused: unknown word"),
+        (tally.other_day, " refused: another day"),
         (tally.trailer, " skipped: last line of a file"),
         (tally.listed, " skipped: word to skip"),
         (tally.no_trade, " skipped: no trade"),

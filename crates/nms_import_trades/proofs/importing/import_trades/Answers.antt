@@ -1,5 +1,5 @@
 -- `import_trades`: all that it promises and the turns of its loop, by `written_on` and `counted_on`.
-use Rattle.std.proofs.Common.{◌≡◌, ◌+◌, ◌++◌, ◌∷◌, [], List, length, Bool, true, false, Ok, ap, arith, sym, subst, ◌∙◌}
+use Rattle.std.proofs.Common.{ℕ, ◌≡◌, ◌+◌, ◌++◌, ◌∷◌, [], List, length, Bool, true, false, Ok, Option, ap, arith, refl, sym, subst, ◌∙◌}
 use Rattle.std.proofs.Common.{append_assoc, length-append}
 use Rattle.std.proofs.lemmas.List.{append-nil}
 use Rattle.csv.specs.Records.{fields_of}
@@ -7,7 +7,8 @@ use Rattle.nms_lines.specs.Layout.{Record}
 use Rattle.nms_import.specs.Rows.{RowsFrom, unread}
 use Rattle.nms_import.specs.declared.row_source.RowSource.{RowSource}
 use Rattle.nms_import_trades.specs.Executions.{rows_in}
-use Rattle.nms_import_trades.proofs.RecordFacts.{counted_on, none_written, written_on}
+use Rattle.nms_import_trades.specs.TradeRow.{day_after, made_on}
+use Rattle.nms_import_trades.proofs.RecordFacts.{counted_on, day_on, none_written, written_on}
 use Rattle.nms_import_trades.proofs.importing.import_trades.Goals as goal
 
 pub loop-done-init : goal.loop-done-init
@@ -20,6 +21,7 @@ loop-done-init g c = (
     none_written (g.W.Write.contents c.args.executions.now),
     omega arith,
     omega arith,
+    refl,
   ),
 )
 
@@ -29,7 +31,7 @@ returns-then-not-branch g c = record {
       let had = c.loop-done.invariant.1 config bytes seen reads in
       let none : c.in_ok-next_row.field-0 ≡ false = cc in
       let end = c.in_ok-next_row.ensures.end config bytes (seen ++ had.0) had.1 (ap (λ (b : Bool). Ok b) none) in
-      (had.0, end, had.2, had.3, had.4);
+      (had.0, end, had.2, had.3, had.4, had.5);
 }
 
 pub loop-done-preserved : goal.loop-done-preserved
@@ -45,16 +47,20 @@ loop-done-preserved g c = (
         had.0 ++ row ∷ [],
         subst (λ (rows : List Record). RowsFrom {R = RowSource g.row.R.Denot} config (unread g.R.Read.remaining) c.next_row.new.reader bytes rows)
             (append_assoc seen had.0 (row ∷ [])) found,
-        written_on c.args.columns.now c.args.meanings.now c.args.roster.now (rows_in c.args.tally.now + 1) (c.loop-done.done + 1) had.0 row
+        written_on c.args.columns.now c.args.meanings.now c.args.roster.now c.args.work.now.day c.loop-done.work.day
+            (rows_in c.args.tally.now + 1) (c.loop-done.done + 1) had.0 row
             (g.W.Write.contents c.args.executions.now) (g.W.Write.contents c.loop-done.executions)
-            (g.W.Write.contents c.import_trade.new.executions) numbered had.2 c.in_ok-import_trade.ensures.executions,
+            (g.W.Write.contents c.import_trade.new.executions) had.5 numbered had.2 c.in_ok-import_trade.ensures.executions,
         omega (arith, c.in_ok-import_trade.ensures.rows, had.3, length-append had.0 (row ∷ [])),
         omega (
           arith,
           c.in_ok-import_trade.ensures.counted,
           had.4,
-          counted_on c.args.columns.now c.args.meanings.now c.args.roster.now (rows_in c.args.tally.now + 1) (c.loop-done.done + 1) had.0
-              row numbered,
+          counted_on c.args.columns.now c.args.meanings.now c.args.roster.now c.args.work.now.day c.loop-done.work.day
+              (rows_in c.args.tally.now + 1) (c.loop-done.done + 1) had.0 row had.5 numbered,
         ),
+        c.in_ok-import_trade.ensures.day
+            ∙ ap (λ (from : Option ℕ). day_after from (made_on from c.args.columns.now c.args.meanings.now c.args.roster.now row)) had.5
+            ∙ day_on c.args.columns.now c.args.meanings.now c.args.roster.now c.args.work.now.day had.0 row,
       ),
 )

@@ -10,4 +10,9 @@ returns c = record {
   nine_columns_are_needed = refl;
   the_name_stands_last = refl;
   the_name_stands_first = refl;
+  another_date = refl;
+  the_same_date = refl;
+  no_date = refl;
+  the_first_day_stays = refl;
+  no_day_without_an_execution = refl;
 }
