@@ -1,10 +1,10 @@
-//! The option `--add-symbols` of `import`: symbols that the setup lacks are added, to a setup that is written beside the changes.
-//! The vendor's files are read twice.
+//! The option `--add-symbols` of `import`: symbols that the setup lacks are added to a new setup, which is written next to the
+//! changes. The vendor's files are read twice.
 use crate::call::{Call, Host};
 use crate::fault::{About, Fault, Output};
 use crate::files::{is_file, setup_in};
 use crate::importing::import_under;
-use crate::notices::{note_full, refuse_columns};
+use crate::notices::{note_full, note_lots, refuse_columns};
 use crate::outputs::{SHARD, check_outputs, create, flush, remove_parts};
 use crate::request::{Import, Path};
 use crate::vendor::{Rows, fault_in, open_vendor};
@@ -19,7 +19,7 @@ const SETUP: Output = Output {
     end: ".toml",
 };
 
-/// Imports under the setup of the call with the symbols that it lacks.
+/// Imports a vendor's files under the call's setup, to which the files' other symbols were added.
 pub(crate) fn import_added<T: Host, W: Write>(
     call: &Call<'_, T>,
     import: &Import<'_>,
@@ -50,7 +50,7 @@ pub(crate) fn import_added<T: Host, W: Write>(
     ended
 }
 
-/// Adds the symbols of a file.
+/// Adds the symbols of one vendor's file to the roster.
 fn add_of<T: Host>(
     call: &Call<'_, T>,
     file: Path<'_>,
@@ -78,7 +78,7 @@ fn add_of<T: Host>(
     }
 }
 
-/// Writes the setup with the symbols of a roster, and imports under it.
+/// Writes a setup that has the symbols of the given roster, and imports the vendor's files under that setup.
 fn import_with<T: Host, W: Write>(
     call: &Call<'_, T>,
     import: &Import<'_>,
@@ -95,6 +95,9 @@ fn import_with<T: Host, W: Write>(
         .map_err(|_| Fault::unwritten(About::Out(SETUP)))?;
     flush(&mut file, SETUP)?;
     let setup = setup_in(call.alloc(), &bytes, About::Value("setup"))?;
+    if roster.syms() > call.setup.roster().syms() {
+        note_lots(call)?;
+    }
     let under = Call {
         rt: call.rt,
         screen: call.screen,

@@ -31,7 +31,7 @@ impl<W: Write> Answers<W> {
         })
     }
 
-    /// Writes out what was kept.
+    /// Writes out the bytes that are kept in memory.
     fn write_out(&mut self) -> io::Result<()> {
         if self.erases {
             self.writer.write_all(ERASE.as_bytes())?;
@@ -41,7 +41,7 @@ impl<W: Write> Answers<W> {
         Ok(())
     }
 
-    /// Whether what is kept ends with a line and is enough for a piece.
+    /// Whether the kept bytes end at the end of a line and are enough to be written out as a piece.
     fn is_piece(&self) -> bool {
         self.text.len() > ENOUGH && self.text.last() == Some(&b'\n')
     }

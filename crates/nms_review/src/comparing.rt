@@ -32,7 +32,8 @@ pub(crate) fn serve_compare<T: Host, W: Write>(
     }
 }
 
-/// Compares by a mapping. It reads the times and the changes first.
+/// Compares a vendor's national bests with those of the changes, after the mapping was read. The times and the changes are read
+/// first.
 fn compare_by<T: Host, W: Write>(
     call: &Call<'_, T>,
     compare: &Compare<'_>,
@@ -52,7 +53,8 @@ fn compare_by<T: Host, W: Write>(
     compared.map_err(|fault| fault.with_reason(failed))
 }
 
-/// Compares the rows of the vendor's file with changes.
+/// Compares the rows of an open vendor's file with the changes. If `--refused` names a file, the rows that differ or are refused
+/// go there.
 fn compare_with<T: Host, W: Write>(
     call: &Call<'_, T>,
     compare: &Compare<'_>,
@@ -135,7 +137,7 @@ fn tell_counts<T: Host, W: Write>(
     }
 }
 
-/// A fault of a comparison, in the file that it is about.
+/// Turns the comparison's fault into a fault of the call, which names the file at fault.
 fn fault_in(fault: CompareFault, compare: &Compare<'_>) -> Fault {
     let file = match fault {
         CompareFault::NotTheTimes => compare.times,

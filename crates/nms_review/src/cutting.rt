@@ -30,9 +30,9 @@ struct Shards<'a, T, F> {
     times: Answers<F>,
     row: ByteRecord,
     text: Vec<u8>,
-    /// How many shards were begun.
+    /// The number of shards that were begun.
     shards: u64,
-    /// How many opening changes they have.
+    /// The number of opening changes in all shards that were begun.
     openings: u64,
 }
 
@@ -75,7 +75,7 @@ fn refuse_order<T: Host>(call: &Call<'_, T>, import: &Import<'_>) -> Result<Endi
     refuse_map(call, import.map, Kind::Quotes, &fault)
 }
 
-/// Begins the first shard.
+/// Creates the files of the first shard under temporary names, and prepares the import.
 fn begin<'a, T: Host>(
     call: &'a Call<'a, T>,
     import: &'a Import<'a>,
@@ -209,7 +209,7 @@ impl<'a, T: Host> Shards<'a, T, T::File> {
         Ok(())
     }
 
-    /// Writes what is left of the shard, its symbols and its setup.
+    /// Writes out the changes and times that the shard still keeps in memory, then its symbols and its setup.
     fn finish_shard(&mut self) -> Result<(), Fault> {
         let (call, shard) = (self.call, self.shards);
         flush(&mut self.changes, of_shard(shard, ".changes"))?;
@@ -230,7 +230,7 @@ impl<'a, T: Host> Shards<'a, T, T::File> {
     }
 }
 
-/// The file of a shard with the given end of its name.
+/// The file of a shard with the given number, and the given end of its name.
 fn of_shard(shard: u64, end: &'static str) -> Output {
     Output { shard, end }
 }
@@ -240,7 +240,7 @@ fn sum_of(count: u64, more: u64) -> Result<u64, Fault> {
     count.checked_add(more).ok_or(too_long())
 }
 
-/// Writes a text to its file, if there was memory for it.
+/// Writes a text to its file. It is a fault if there was no memory to make the text.
 fn finish<W: Write>(
     file: &mut W,
     output: Output,
@@ -256,7 +256,8 @@ fn finish<W: Write>(
     }
 }
 
-/// Writes how many shards there are, and how many opening changes they have in addition to those of the rows.
+/// Writes the number of shards and the number of their opening changes, which were written in addition to those of the vendor's
+/// rows.
 fn write_shards<W: Write>(shards: u64, openings: u64, answers: &mut W) -> Result<(), Fault> {
     write_line(
         answers,

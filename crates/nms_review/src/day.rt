@@ -20,7 +20,7 @@ const FINDINGS: Output = Output {
     end: ".findings.csv",
 };
 
-/// Judges a file of executions on the shards of a day. No file of a shard is an output.
+/// Judges a file of executions on the shards of a day. The call is refused if its output would overwrite a file of a shard.
 pub(crate) fn serve_day<T: Host, W: Write>(
     call: &Call<'_, T>,
     asked: &DayOf<'_>,
@@ -42,7 +42,7 @@ pub(crate) fn serve_day<T: Host, W: Write>(
     served
 }
 
-/// Refuses an output that is a file of shards.
+/// Refuses the call if the file of findings would overwrite a file of one of these shards.
 fn refuse_shards<T: Host>(
     call: &Call<'_, T>,
     asked: &DayOf<'_>,
@@ -98,7 +98,7 @@ fn judge_day<T: Host, W: Write>(
     Ok(day.ending())
 }
 
-/// Judges the executions on the shard with a name. One that has no symbols is passed over.
+/// Judges the executions on one shard. A shard that has no symbols is passed over.
 fn judge_shard<T: Host>(
     call: &Call<'_, T>,
     asked: &DayOf<'_>,
@@ -141,7 +141,7 @@ fn name_of<T: Host>(call: &Call<'_, T>, shards: &Shards, number: u64) -> Result<
     format!(in call.alloc(); "{name}.{number}").map_err(|_| Fault::no_memory())
 }
 
-/// The path of the file of a shard with the given end of its name.
+/// The path of one file of a shard: the name of the shard, and an end such as `.changes`.
 fn path_of<T: Host>(call: &Call<'_, T>, name: &str, end: &str) -> Result<String, Fault> {
     format!(in call.alloc(); "{name}{end}").map_err(|_| Fault::no_memory())
 }
@@ -161,7 +161,7 @@ fn read_end<T: Host>(
     at_end(call, name, end, call.read(file))
 }
 
-/// What came of a file of a shard. If it is a fault, the file is named first.
+/// Passes on the result of reading or judging a file of a shard. Before a fault, a line on standard error names the file.
 fn at_end<T: Host, V: Drop>(
     call: &Call<'_, T>,
     name: &str,
@@ -175,7 +175,8 @@ fn at_end<T: Host, V: Drop>(
     came
 }
 
-/// The fault of a call, which may be about its executions or about a shard. If it is about one record, its number is shown.
+/// Turns a fault of the day into a fault of the call, about the executions or a shard. If one record is at fault, its number is
+/// shown first.
 fn fault_of<T: Host>(
     call: &Call<'_, T>,
     asked: &DayOf<'_>,
@@ -205,7 +206,7 @@ fn fault_of<T: Host>(
     Ok(Fault::usage(about, expected))
 }
 
-/// A fault of executions on a shard, about their file or about the shard.
+/// Turns a fault of the judgement on a shard into a fault of the call, about the file of executions or about the shard.
 fn trades_fault_of(fault: TradesFault, executions: About, shard: About) -> Fault {
     match fault {
         TradesFault::Times(fault) | TradesFault::Symbols(fault) => Fault::of_times(fault, shard),

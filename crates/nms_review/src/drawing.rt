@@ -122,7 +122,7 @@ fn draw_trades<T: Host, W: Write>(
     changes.ended(executions.ended(served))
 }
 
-/// The argument that names the last version that is drawn.
+/// The option that is blamed if the last version of the page is beyond the tape: `--to`, or `--from` if there is no `--to`.
 fn last_of(draw: &Draw<'_>) -> About {
     if matches!(draw.to, Ok(None)) {
         About::Value("from")
@@ -131,7 +131,7 @@ fn last_of(draw: &Draw<'_>) -> About {
     }
 }
 
-/// A fault of a drawing. It is about what names its version, or about the file of changes, the plan or the times.
+/// Turns a fault of a drawing into a fault of the call, about the argument for its version, the changes, the plan or the times.
 pub(crate) fn drawing_fault(fault: DrawingFault, version: About, changes: About) -> Fault {
     let about = match fault {
         DrawingFault::VersionBeyondTape => version,
@@ -145,7 +145,8 @@ pub(crate) fn drawing_fault(fault: DrawingFault, version: About, changes: About)
     Fault::of(fault.code(), about)
 }
 
-/// The versions that are shown, and what the page counts. If there is a file of symbols, they are at most those of the symbol.
+/// The versions that the page shows, and whether it counts times or versions. A file of symbols limits them to the symbol's
+/// versions.
 fn frame_of<'a, T: Host>(
     call: &Call<'_, T>,
     draw: &Draw<'_>,
@@ -175,7 +176,8 @@ fn frame_of<'a, T: Host>(
     })
 }
 
-/// The first and the last version of the symbol, by the file of symbols. Without such a file, those of the changes.
+/// The first and the last version of the symbol, by the file of symbols. Without such a file, the first is 0 and no last one is
+/// set.
 fn span_drawn<T: Host>(
     call: &Call<'_, T>,
     draw: &Draw<'_>,
@@ -191,7 +193,7 @@ fn span_drawn<T: Host>(
     Ok((span.before as u64, Some(span.last as u64)))
 }
 
-/// The version at which an option begins or ends what is drawn, if it was given.
+/// The version that `--from` or `--to` gives, by its number or by a time.
 fn end_of<T: Host>(
     call: &Call<'_, T>,
     draw: &Draw<'_>,
@@ -205,7 +207,7 @@ fn end_of<T: Host>(
     }
 }
 
-/// The time of a version that is found by time.
+/// The time that `--from` or `--to` gives, if it gives a time and not the number of a version.
 fn time_of(given: &Result<Option<Version>, Fault>) -> Option<TimeOfDay> {
     match given {
         Ok(Some(Version::At { time, .. })) => Some(*time),

@@ -104,7 +104,8 @@ fn serve_executions<T: Host, W: Write>(
     )
 }
 
-/// The executions of a text that are refused. Without times there may be any number of changes, and a time is refused.
+/// The refused executions of a text. Without times, an execution may name any version, and a time in place of a version is
+/// refused.
 fn refused_in<T: Host>(
     call: &Call<'_, T>,
     explain: &Explain<'_>,

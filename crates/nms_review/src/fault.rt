@@ -7,7 +7,7 @@ use std::io;
 /// Why a request was not served.
 #[derive(Clone, Copy)]
 pub(crate) struct Fault {
-    /// The code, or `usage`.
+    /// The code of the fault, or `usage` for a wrong argument.
     pub(crate) code: Code,
     /// The argument or file that the fault is about.
     pub(crate) about: About,
@@ -32,19 +32,17 @@ pub(crate) enum About {
     Out(Output),
 }
 
-/// A file that is written: `NAME` of `--out`, the number of its shard and an end.
+/// A written file. Its path is made of the value of `--out`, the number of the shard, and an end.
 #[derive(Clone, Copy)]
 pub(crate) struct Output {
     /// The number of the file's shard, 0 if there are no shards.
     pub(crate) shard: u64,
-    /// The end of the file's name; empty if it is one of several.
+    /// The end of the file's name, such as `.changes`. It is empty if any of the shard's files may be meant.
     pub(crate) end: &'static str,
 }
 
 impl Fault {
-    /// A fault of the library, in the file that an argument names.
-    ///
-    /// Faults of memory and of the output are not about a file.
+    /// A fault with a code of the library. It names the given argument, but a lack of memory or a fault of an output names none.
     pub(crate) fn of(code: Code, about: About) -> Self {
         let is_of_a_word = code.matter().is_of_a_word();
         Fault {
@@ -88,7 +86,7 @@ impl Fault {
         Fault::of(Code::E4, About::Nothing)
     }
 
-    /// The same fault, but E2 is about this output.
+    /// The same fault, but if an output could not be written, the fault names the given output.
     pub(crate) fn in_output(self, output: Output) -> Self {
         if self.code == Code::E2 {
             Fault::unwritten(About::Out(output))

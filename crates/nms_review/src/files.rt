@@ -1,4 +1,4 @@
-//! The setup of a call, and the files that it writes. None of these is a file that it reads.
+//! The setup of a call, and the files that the call writes. A file that is read is never overwritten.
 use crate::call::{Call, Host};
 use crate::fault::{About, Fault};
 use crate::words::Words;
@@ -9,12 +9,12 @@ use std::fs;
 use std::os::unix::fs::MetadataExt;
 use std::rt::Files;
 
-/// The options that name files which a call with an output reads, besides its own words.
+/// The options that name files that a call reads. A file that one of these options names is never overwritten.
 const READ: [&'static str; 5] = ["setup", "times", "symbols", "map", "trades"];
 /// Where the system shows standard output and standard error.
 const STREAMS: [&'static str; 2] = ["/dev/stdout", "/dev/stderr"];
 
-/// A new file at a path that is not in use. E2 is about the given argument.
+/// Creates a file at a path that the call does not use. If it cannot be created, E2 names the given argument.
 pub(crate) fn create_file<T: Host>(
     call: &Call<'_, T>,
     path: &str,
@@ -24,8 +24,8 @@ pub(crate) fn create_file<T: Host>(
     fs::create(call.rt, path).map_err(|_| Fault::unwritten(about))
 }
 
-/// Refuses a path that leads to a file that the call reads, or to that of a standard stream, by any name or link. The given
-/// argument is that of the output.
+/// Refuses an output that would overwrite a file that the call reads, or the file of a standard stream. Links to such a file are
+/// refused too.
 pub(crate) fn refuse_used<T: Host>(
     call: &Call<'_, T>,
     path: &str,
@@ -44,7 +44,7 @@ pub(crate) fn refuse_used<T: Host>(
     Ok(())
 }
 
-/// Whether standard output or standard error is written to this file.
+/// Whether standard output or standard error is written to the file that has this device and file number.
 fn is_stream<T: Files>(rt: &T, own: (u64, u64)) -> bool {
     for stream in STREAMS {
         if is_at(rt, Some(stream), own) {
@@ -69,7 +69,7 @@ pub(crate) fn is_special<T: Files>(rt: &T, path: &str) -> bool {
     fs::metadata(rt, path).is_ok() && !is_file(rt, path)
 }
 
-/// The argument that names this file, if the call reads it.
+/// The argument that names the file with this device and file number, if the call reads that file.
 fn input_at<T: Files>(rt: &T, words: &Words<'_>, own: (u64, u64)) -> Option<About> {
     for place in 0..words.own.len() {
         if is_at(rt, words.word(place), own) {
@@ -84,7 +84,7 @@ fn input_at<T: Files>(rt: &T, words: &Words<'_>, own: (u64, u64)) -> Option<Abou
     None
 }
 
-/// Whether an argument, if it was given, leads to this file.
+/// Whether an argument leads to the file with this device and file number.
 fn is_at<T: Files>(rt: &T, word: Option<&str>, own: (u64, u64)) -> bool {
     match word {
         Some(word) => identity_of(rt, word) == Some(own),

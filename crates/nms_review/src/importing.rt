@@ -76,7 +76,7 @@ pub(crate) struct Kept<'a, F> {
 }
 
 impl<'a, F: Write + Drop> Kept<'a, F> {
-    /// Of no rows, with room for n symbols.
+    /// An import's state before its first row, with room for n symbols.
     pub(crate) fn new<T: Host<File = F>>(
         call: &Call<'_, T>,
         import: &Import<'_>,
@@ -103,7 +103,7 @@ impl<'a, F: Write + Drop> Kept<'a, F> {
         }
     }
 
-    /// Begins a file. Returns whether a file before it was short.
+    /// Begins a vendor's file. Returns whether the last line of an earlier file did not count its rows.
     pub(crate) fn begin_file(&mut self, file: Path<'a>) -> Result<bool, Fault> {
         let rows = self.sums()?.rows;
         self.told.enter(file.name);
@@ -190,7 +190,7 @@ fn import_quotes<T: Host, W: Write>(
     ended
 }
 
-/// Makes changes under the setup of the call, and gives the files of `ends` their names.
+/// Imports quotes under the setup of the call. The written files, whose ends are listed in `ends`, then get their final names.
 pub(crate) fn import_under<T: Host, W: Write>(
     call: &Call<'_, T>,
     import: &Import<'_>,
@@ -204,7 +204,7 @@ pub(crate) fn import_under<T: Host, W: Write>(
     }
 }
 
-/// Makes the three files.
+/// Creates the files of changes, times and symbols under temporary names, and prepares the import.
 fn begin<'a, T: Host>(
     call: &'a Call<'a, T>,
     import: &'a Import<'a>,

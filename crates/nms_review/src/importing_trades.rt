@@ -70,7 +70,7 @@ fn import_executions<T: Host, W: Write>(
     ended
 }
 
-/// Makes the file.
+/// Creates the file of executions under its temporary name, and prepares the report on refused rows.
 fn begin<'a, T: Host>(
     call: &'a Call<'a, T>,
     import: &'a Import<'a>,
@@ -162,8 +162,8 @@ impl<'a, T: Host> Executions<'a, T, T::File> {
     }
 }
 
-/// The first reason for which the import is doubted. Most rows were refused; or a last line is absent or counts other rows; or
-/// no row made an execution.
+/// The first reason for which the import is doubted. Either most rows were refused, or a last line is absent or counts other
+/// rows, or no row made an execution.
 fn doubt_of(sums: &TradeSums, is_short: bool) -> Option<Code> {
     if sums.refused > sums.rows / 2 {
         Some(Code::I1)

@@ -70,7 +70,7 @@ fn wants_no_colours<T: Host + Env>(rt: &T) -> bool {
     }
 }
 
-/// Whether the terminal shows no escapes.
+/// Whether the environment says that the terminal cannot show colours.
 fn is_dumb<T: Host + Env>(rt: &T) -> bool {
     match env::var(rt, "TERM") {
         Ok(name) => name.as_str() == "dumb",
@@ -129,8 +129,8 @@ fn tell_help<T: Print, E: Write>(rt: &T, help: &str, errors: &mut E) -> u8 {
     }
 }
 
-/// Prints on standard error why the parser refuses the arguments, and gives the status. The text quotes arguments of the call,
-/// so each line is written with escapes, as a line of a file is.
+/// Prints on standard error why the parser refuses the arguments, and returns the exit status. Control characters are escaped,
+/// because the text quotes arguments of the call.
 fn tell_refusal<E: Write>(errors: &mut E, text: &str) -> u8 {
     let bytes = text.as_bytes();
     let lines = bytes.strip_suffix(b"\n").unwrap_or(bytes);
@@ -148,7 +148,8 @@ fn tell_code<E: Write>(errors: &mut E, code: Code) -> u8 {
     tell_early(errors, code, code.sentence())
 }
 
-/// As `tell_code`, with another sentence. If standard error does not take it, the status is the same.
+/// Prints a code and another sentence on standard error, and returns the exit status of the code. A failure to print does not
+/// change it.
 fn tell_early<E: Write>(errors: &mut E, code: Code, sentence: &str) -> u8 {
     let items = [
         Item::Text("nms_review: "),

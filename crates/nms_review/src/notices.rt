@@ -9,7 +9,11 @@ use nms_lines::field_at;
 use nms_show::{Ending, Form, Item, write_line};
 use std::str;
 
-/// The most names of columns that are shown.
+/// What is said if a call without a setup needs another one.
+pub(crate) const BUILT_IN: &str =
+    "nms_review: no --setup was given: the built-in setup has only N, P, Y, Z and ABC, PNY";
+
+/// The most names of columns that a notice shows.
 const MOST_NAMES: usize = 40;
 
 /// Reports why a mapping of a kind is refused, in the file that has the mapping or lacks its columns. It shows the table, the
@@ -106,13 +110,18 @@ pub(crate) fn refuse_columns<T: Host>(
             .push(Item::Bytes(field_at(names, place)))
             .map_err(|_| Fault::no_memory())?;
     }
-    let end = if names.is_empty() { " nothing" } else { "`" };
+    let end = match names.len() {
+        0 => " nothing",
+        1 => "` in one field: is `delimiter` under [file] right?",
+        _ => "`",
+    };
     items.push(Item::Text(end)).map_err(|_| Fault::no_memory())?;
     show_line(call, &items)?;
     Ok(ending)
 }
 
-/// Shows the first file that has no last line with the count of its rows, if the mapping names the count.
+/// Shows the first vendor's file whose last line is absent or counts other rows. It shows nothing if an earlier file was already
+/// shown.
 pub(crate) fn note_short<T: Host>(
     call: &Call<'_, T>,
     file: Path<'_>,
@@ -131,17 +140,15 @@ pub(crate) fn note_short<T: Host>(
     )
 }
 
-/// Says which setup was used, as rows of names that are not on its roster made nothing: the built-in one, or another one if some of
-/// these rows were refused.
+/// Says which setup was used, because some rows name participants or symbols that it lacks. It names a setup of the user only if
+/// such rows were refused.
 pub(crate) fn note_setup<T: Host>(
     call: &Call<'_, T>,
     import: &Import<'_>,
     some_refused: bool,
 ) -> Result<(), Fault> {
-    let built_in =
-        "nms_review: no --setup was given: the built-in setup has only N, P, Y, Z and ABC, PNY";
     match import.setup {
-        None => show_line(call, &[Item::Text(built_in)]),
+        None => show_line(call, &[Item::Text(BUILT_IN)]),
         Some(setup) if some_refused => {
             let words = "nms_review: participants and symbols are those of the setup ";
             show_line(call, &[Item::Text(words), Item::Bytes(setup.as_bytes())])
@@ -150,7 +157,7 @@ pub(crate) fn note_setup<T: Host>(
     }
 }
 
-/// Says at which place the fault is that is reported next: a file of a shard, or a record.
+/// Says where the next reported fault is: in which file of a shard, or at which record.
 pub(crate) fn note_place<'x, T: Host>(
     call: &Call<'_, T>,
     word: &'x str,
@@ -162,10 +169,17 @@ pub(crate) fn note_place<'x, T: Host>(
     )
 }
 
-/// Says that a setup takes no more symbols.
+/// Says that the setup is full: it has 1,000 symbols, and rows of further symbols are not read.
 pub(crate) fn note_full<T: Host>(call: &Call<'_, T>) -> Result<(), Fault> {
     let text =
         "nms_review: the setup has 1,000 symbols, and rows of others are not read: see --shards";
+    show_line(call, &[Item::Text(text)])
+}
+
+/// Says which round lot the added symbols have, because a wrong one changes what is protected.
+pub(crate) fn note_lots<T: Host>(call: &Call<'_, T>) -> Result<(), Fault> {
+    let text =
+        "nms_review: added symbols have the round lot 100: stocks above 250 dollars have smaller ones";
     show_line(call, &[Item::Text(text)])
 }
 
@@ -176,7 +190,7 @@ pub(crate) fn note_odd_hours<T: Host>(call: &Call<'_, T>) -> Result<(), Fault> {
     show_line(call, &[Item::Text(text)])
 }
 
-/// Shows a line.
+/// Shows a line on standard error.
 fn show_line<T: Host>(call: &Call<'_, T>, items: &[Item<'_>]) -> Result<(), Fault> {
     let mut text = Vec::new(call.alloc());
     match write_line(&mut text, Form::Text { colours: false }, items) {
@@ -194,7 +208,7 @@ pub(crate) fn show_kept<T: Host>(call: &Call<'_, T>, text: &mut Vec<u8>) {
     text.clear();
 }
 
-/// Shows a text.
+/// Shows a text on standard error. A failure to show it is ignored.
 fn show_text<T: Host>(call: &Call<'_, T>, text: &[u8]) {
     if let Ok(text) = str::from_utf8(text) {
         let _ = call.rt.eprint(text);

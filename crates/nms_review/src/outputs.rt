@@ -12,16 +12,16 @@ use std::io::Write;
 
 /// The end of a temporary name.
 const PART: &str = ".part";
-/// The files of an import of quotes. Every reader needs the last one.
+/// The files of an import of quotes, by the ends of their names. Every reader of an import needs the changes, so they come last.
 pub(crate) const QUOTES: [&'static str; 3] = [".symbols", ".times", ".changes"];
 /// The file of an import of trades.
 pub(crate) const TRADES: [&'static str; 1] = [".executions"];
 /// The file of the findings of a day.
 pub(crate) const DAY: [&'static str; 1] = [".findings.csv"];
-/// The files of a shard. Every reader needs the last one.
+/// The files of a shard, by the ends of their names. Every reader of a shard needs the changes, so they come last.
 pub(crate) const SHARD: [&'static str; 4] = [".toml", ".symbols", ".times", ".changes"];
 
-/// Refuses an output that is in use, by its own name or by the temporary one, and an output that is no plain file.
+/// Refuses an output if its final or temporary name leads to a file that the call uses, or if it is no plain file.
 pub(crate) fn check_outputs<T: Host>(
     call: &Call<'_, T>,
     name: &str,
@@ -43,8 +43,8 @@ pub(crate) fn check_outputs<T: Host>(
     Ok(())
 }
 
-/// Refuses a file that is read under another name than those of the arguments, if it is an output or would be one under its
-/// temporary name.
+/// Refuses a file that the call reads although no argument names it, if an output would overwrite it under its final or temporary
+/// name.
 pub(crate) fn refuse_read<T: Host>(
     call: &Call<'_, T>,
     name: &str,
@@ -61,7 +61,7 @@ pub(crate) fn refuse_read<T: Host>(
     Ok(())
 }
 
-/// Refuses an output that is the file of refused rows too, by its own name or by the temporary one.
+/// Refuses a path of `--out` if it is also the file of `--refused`, by its own name or by its temporary name.
 fn refuse_twice<T: Host>(call: &Call<'_, T>, path: &str) -> Result<(), Fault> {
     let about = About::Value("refused");
     let Some(name) = call.words.option("refused") else {
@@ -74,7 +74,7 @@ fn refuse_twice<T: Host>(call: &Call<'_, T>, path: &str) -> Result<(), Fault> {
     Ok(())
 }
 
-/// A new file under its temporary name. One whose own name is in use is refused: it would be overwritten in the end.
+/// Creates an output under its temporary name. It is refused if its final name leads to a file that the call uses.
 pub(crate) fn create<T: Host>(
     call: &Call<'_, T>,
     name: &str,
@@ -91,7 +91,7 @@ pub(crate) fn create<T: Host>(
     }
 }
 
-/// A new file of rows, under its temporary name. What is no plain file, as a pipe, is written itself.
+/// Creates the file of refused rows under its temporary name. A pipe or a device gets the rows directly.
 pub(crate) fn create_rows<T: Host>(
     call: &Call<'_, T>,
     rows: Path<'_>,
@@ -109,7 +109,7 @@ pub(crate) fn create_rows<T: Host>(
     }
 }
 
-/// Gives a file of rows its name, if there is one that was written under its temporary name.
+/// Gives the file of refused rows its final name, if there is such a file and it is a plain file.
 pub(crate) fn publish_rows<T: Host>(
     call: &Call<'_, T>,
     rows: Option<Path<'_>>,
@@ -124,7 +124,7 @@ pub(crate) fn publish_rows<T: Host>(
     fs::rename(call.rt, part.as_str(), rows.name).map_err(|_| Fault::unwritten(rows.about))
 }
 
-/// Removes a file of rows that is left under its temporary name.
+/// Removes the file of refused rows if it still has its temporary name, as after a failure.
 pub(crate) fn remove_rows<T: Host>(call: &Call<'_, T>, rows: Option<Path<'_>>) {
     let Some(rows) = rows else {
         return;
@@ -137,7 +137,7 @@ pub(crate) fn remove_rows<T: Host>(call: &Call<'_, T>, rows: Option<Path<'_>>) {
     }
 }
 
-/// Writes out what an output still keeps.
+/// Writes out the bytes that an output still keeps in memory.
 pub(crate) fn flush<W: Write>(writer: &mut W, output: Output) -> Result<(), Fault> {
     writer
         .flush()
@@ -217,7 +217,7 @@ pub(crate) fn remove_parts<T: Host>(
     }
 }
 
-/// Gives a file its own name.
+/// Gives an output its final name in place of its temporary name.
 fn give_name<T: Host>(call: &Call<'_, T>, name: &str, output: Output) -> Result<(), Fault> {
     let own = path_of(call.alloc(), name, output, "")?;
     let part = path_of(call.alloc(), name, output, PART)?;

@@ -1,4 +1,4 @@
-//! The option `--html` of `trades`: writes a page for the file, next to the answers.
+//! The option `--html` of `trades`: writes a page about the judged executions, in addition to the answers.
 use crate::answers::Answers;
 use crate::call::{Call, Host};
 use crate::drawing::drawing_fault;
@@ -14,7 +14,7 @@ use nms_trades::{Layout, Timing};
 use std::alloc::AllocError;
 use std::io::Write;
 
-/// Judges a file of executions, and writes the page. Both files are opened before it is made.
+/// Judges a file of executions, and writes the page. The changes and the executions are opened before the page is created.
 pub(crate) fn serve_page<T: Host, W: Write>(
     call: &Call<'_, T>,
     trades: &Trades<'_>,
@@ -62,8 +62,8 @@ pub(crate) fn serve_page<T: Host, W: Write>(
     changes.ended(executions.ended(served))
 }
 
-/// The pairs that say what a page was made from. They have each given file after what it is, the setup, and how versions are
-/// found by times.
+/// Pairs of a key and a text, which say on the page what it was made from. They name the given files, the setup, and how versions
+/// were found by time.
 pub(crate) fn made_of<'a, T: Host>(
     call: &Call<'a, T>,
     files: &[(&'static str, Option<Path<'a>>)],
@@ -82,7 +82,7 @@ pub(crate) fn made_of<'a, T: Host>(
     }
 }
 
-/// Adds the setup, and how versions are found by times.
+/// Adds the pairs for `--setup`, `--window` and `--before`, if these options were given.
 fn add_options<'a>(pairs: &mut Vec<&'a [u8]>, words: &'a Words<'a>) -> Result<(), AllocError> {
     if let Some(setup) = words.option("setup") {
         add_pair(pairs, "setup", setup.as_bytes())?;
@@ -107,7 +107,8 @@ fn add_pair<'a>(
     Ok(())
 }
 
-/// A fault of executions on a page. It is about the file of the executions, what names the version, or another file.
+/// Turns a fault of a page into a fault of the call. It is about the executions, the argument that names a version, or another
+/// file.
 pub(crate) fn page_fault(fault: PageFault, executions: About, version: About) -> Fault {
     match fault {
         PageFault::Drawing(fault) => drawing_fault(fault, version, About::Word(0)),

@@ -17,7 +17,7 @@ pub(crate) struct Progress {
     lines: u64,
     began: Duration,
     shown: Duration,
-    /// When progress is shown next, if the clock goes that far.
+    /// The time at which progress is shown next. It is absent if the clock cannot count so far.
     next: Option<Duration>,
 }
 
@@ -59,7 +59,7 @@ impl Progress {
         }
     }
 
-    /// Milliseconds from the start of the reading until this is shown.
+    /// Milliseconds from the start of the reading until the progress was last shown.
     fn passed(&self) -> u64 {
         match self.shown.checked_sub(self.began) {
             Some(passed) => u64::try_from(passed.as_millis()).unwrap_or(u64::MAX),
@@ -93,7 +93,7 @@ impl fmt::Display for Progress {
     }
 }
 
-/// A number times another, divided by a third.
+/// A product of two numbers, divided by a third. It is 0 if the third is 0, and at most 2^64 - 1.
 fn part_of(number: u64, times: u64, whole: u64) -> u64 {
     let product = u128::from(number) * u128::from(times);
     let part = product.checked_div(u128::from(whole)).unwrap_or(0);

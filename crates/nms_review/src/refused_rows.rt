@@ -1,4 +1,4 @@
-//! Where the rows of an import are shown that it refuses: on standard error, or in the file that `--refused` names.
+//! Where an import shows the rows that it refuses: on standard error, or in the file that `--refused` names.
 use crate::answers::Answers;
 use crate::call::{Call, Host};
 use crate::fault::{About, Fault};
@@ -10,19 +10,20 @@ use nms_show::Form;
 use std::io;
 use std::io::Write;
 
-/// The option that names the file.
+/// The option `--refused`, which names the file for refused rows.
 const OPTION: &str = "refused";
 
-/// Where they are shown.
+/// The place at which refused rows are shown.
 #[derive(Drop)]
 pub(crate) enum RefusedRows<F> {
-    /// Kept for standard error.
+    /// Refused rows are kept in memory, and shown on standard error later.
     Kept(Vec<u8>),
-    /// In a file, and whether it took all of them.
+    /// Refused rows are written to a file. The flag is false once a write has failed.
     Filed(Answers<F>, bool),
 }
 
-/// Where the call shows them, and how.
+/// Chooses where and in which form an import shows refused rows: as text on standard error, or as objects in the file of
+/// `--refused`.
 pub(crate) fn refused_rows<T: Host>(
     call: &Call<'_, T>,
     import: &Import<'_>,
@@ -40,14 +41,14 @@ pub(crate) fn refused_rows<T: Host>(
 }
 
 impl<F: Write> RefusedRows<F> {
-    /// Shows what was kept for standard error.
+    /// Shows the refused rows that were kept for standard error.
     pub(crate) fn show<T: Host>(&mut self, call: &Call<'_, T>) {
         if let RefusedRows::Kept(text) = self {
             show_kept(call, text);
         }
     }
 
-    /// Writes out what is kept back of the file. E2 comes if it did not take all rows.
+    /// Writes the last refused rows to the file, if there is one. E2 is returned if the file did not take all rows.
     pub(crate) fn finish(&mut self) -> Result<(), Fault> {
         match self {
             RefusedRows::Kept(_) => Ok(()),

@@ -1,7 +1,7 @@
 //! What a call asks for: what the arguments of each subcommand mean. They are read only here.
 //!
-//! If no file is read before an argument is tested, a wrong one is a fault at once. Else its field has the fault until its turn
-//! comes.
+//! An argument with a wrong form is reported at once if no file is read before its test. Otherwise its fault is kept in its
+//! field, and is reported after these files are read.
 use crate::fault::{About, Fault};
 use crate::words::{Kind, RecordKind, Sub, Words};
 use nms_times::TimeOfDay;
@@ -26,7 +26,7 @@ pub(crate) struct Symbol<'a> {
     pub(crate) about: About,
 }
 
-/// A symbol, if versions are found by time among its changes only.
+/// A symbol and the file of symbols by which its changes are found. Versions are then found by time among its changes only.
 #[derive(Clone, Copy)]
 pub(crate) struct Within<'a> {
     /// The file of symbols that an import wrote.
@@ -142,11 +142,11 @@ pub(crate) struct Import<'a> {
     /// Whether each time has the number of its row.
     pub(crate) rows: bool,
     pub(crate) shards: bool,
-    /// Whether symbols that the setup lacks are added.
+    /// Whether the import adds symbols that the setup lacks to a new setup.
     pub(crate) adds: bool,
     /// Where all refused rows are written.
     pub(crate) refused: Option<Path<'a>>,
-    /// The setup that was named.
+    /// The path of the setup that `--setup` gives, if it was given.
     pub(crate) setup: Option<&'a str>,
 }
 
@@ -170,7 +170,7 @@ pub(crate) enum Wanted<'a> {
 #[derive(Drop)]
 pub(crate) struct Versions<'a> {
     pub(crate) times: Vec<TimeOfDay>,
-    /// Whether the changes of a time itself are left out.
+    /// Whether changes at exactly the given time are left out, so that the version before that time is found.
     pub(crate) before: bool,
     pub(crate) within: Option<Within<'a>>,
 }
@@ -182,7 +182,7 @@ pub(crate) struct Trades<'a> {
     pub(crate) executions: Path<'a>,
     pub(crate) times: Option<Path<'a>>,
     pub(crate) symbols: Option<Path<'a>>,
-    /// Whether the changes of an execution's own time are left out.
+    /// Whether changes at exactly the time of an execution are left out when it is judged.
     pub(crate) before: bool,
     /// The window, in nanoseconds.
     pub(crate) window: Result<Option<u64>, Fault>,
@@ -201,7 +201,7 @@ pub(crate) struct DayOf<'a> {
     pub(crate) executions: Path<'a>,
     /// The beginning of the written file's name.
     pub(crate) out: &'a str,
-    /// Whether the changes of an execution's own time are left out.
+    /// Whether changes at exactly the time of an execution are left out when it is judged.
     pub(crate) before: bool,
     /// The window, in nanoseconds.
     pub(crate) window: Option<u64>,
@@ -219,7 +219,7 @@ pub(crate) struct Compare<'a> {
     pub(crate) refused: Option<Path<'a>>,
 }
 
-/// What the arguments ask for. Or the first fault of those that are reported before any file is read.
+/// What the arguments ask for, or the first fault among the arguments that are tested before any file is read.
 pub(crate) fn request_of<'a>(alloc: Global, words: &Words<'a>) -> Result<Request<'a>, Fault> {
     match words.command {
         Sub::Explain => explained(words),
@@ -260,7 +260,7 @@ pub(crate) fn request_of<'a>(alloc: Global, words: &Words<'a>) -> Result<Request
 /// What `explain` is asked for. An option that has no effect on the kind is refused.
 fn explained<'a>(words: &Words<'a>) -> Result<Request<'a>, Fault> {
     let Some(kind) = Kind::named(own_word(words, 0)) else {
-        // The parser lets no other word pass there.
+        // The parser accepts only the names of kinds as the first argument, so this fault cannot occur.
         return Err(Fault::usage(About::Word(0), "it is no kind of file"));
     };
     let is_feed = matches!(kind, Kind::Records(RecordKind::Feed));
@@ -313,7 +313,7 @@ fn version_shown(words: &Words<'_>) -> Result<Version, Fault> {
     }
 }
 
-/// What `stream` is asked for. Boards can't be written as text.
+/// Reads the arguments of `stream`. Each participant's quotations can be printed as objects only, so text is refused for them.
 fn streamed<'a>(words: &Words<'a>) -> Result<Request<'a>, Fault> {
     let boards = words.has("boards");
     if boards && !words.has("json") {
@@ -387,7 +387,7 @@ fn sought<'a>(alloc: Global, words: &Words<'a>) -> Result<Request<'a>, Fault> {
     }
 }
 
-/// The version whose time is asked for. The options that find versions do not go with it.
+/// Reads the version whose time `when` is to find. A time, `--before`, `--symbols` or `--symbol` is refused in such a call.
 fn version_alone(words: &Words<'_>, version: &str) -> Result<u64, Fault> {
     if words.own.len() > 1
         || words.has("before")
@@ -456,7 +456,8 @@ fn judged_day<'a>(alloc: Global, words: &Words<'a>) -> Result<Request<'a>, Fault
     }))
 }
 
-/// What `trades` is to print. At most one of three is given. Columns are CSV and not objects.
+/// The layout that `trades` prints. At most one of `--columns`, `--table` and `--quality` may be given, and `--columns` excludes
+/// `--json`.
 fn layout_given(words: &Words<'_>) -> Result<Layout, Fault> {
     let columns = words.has("columns");
     if columns && words.has("json") {
@@ -474,7 +475,8 @@ fn layout_given(words: &Words<'_>) -> Result<Layout, Fault> {
     }
 }
 
-/// The nanoseconds that `--window` gives. It needs times, as two other options do.
+/// The nanoseconds that `--window` gives in a call of `trades`. `--window`, `--before` and `--symbols` are refused without
+/// `--times`.
 fn window_given(words: &Words<'_>) -> Result<Option<u64>, Fault> {
     let window = words.option("window");
     let needs_times = window.is_some() || words.has("before") || words.option("symbols").is_some();
@@ -501,7 +503,7 @@ fn window_in(words: &Words<'_>) -> Result<Option<u64>, Fault> {
     }
 }
 
-/// The subcommand's own argument at a place. The parser makes sure that the needed ones are there.
+/// The subcommand's own argument at a place, counted from 0. The parser makes sure that needed arguments are present.
 fn own_word<'a>(words: &Words<'a>, place: usize) -> &'a str {
     words.word(place).unwrap_or("")
 }
@@ -525,7 +527,7 @@ fn own_files<'a>(alloc: Global, words: &Words<'a>, first: usize) -> Result<Vec<P
     Ok(files)
 }
 
-/// The file that an option names. The parser makes sure that it is there.
+/// The file that a needed option names. The parser makes sure that the option is given.
 fn needed_file<'a>(words: &Words<'a>, option: &'static str) -> Path<'a> {
     Path {
         name: words.option(option).unwrap_or(""),
@@ -549,7 +551,7 @@ fn own_symbol<'a>(words: &Words<'a>, place: usize) -> Option<Symbol<'a>> {
     })
 }
 
-/// How versions are found by time: among the changes of a symbol, if a file of symbols is named.
+/// The symbol and the file of symbols that limit a search by time. Without both of them, the search has no such limit.
 fn found_within<'a>(words: &Words<'a>, symbol: Option<Symbol<'a>>) -> Option<Within<'a>> {
     Some(Within {
         symbols: given_file(words, "symbols")?,

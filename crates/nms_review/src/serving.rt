@@ -20,7 +20,7 @@ use nms_show::Ending;
 use nms_verdicts::{VerdictFault, check_answers, explain_why};
 use std::io::Write;
 
-/// Serves what the arguments ask for. What needs no setup is served under the built-in one.
+/// Serves what the arguments ask for. A subcommand without a setup is served under the built-in one.
 pub(crate) fn serve<T: Host, W: Write>(
     rt: &T,
     screen: Screen,
@@ -175,7 +175,7 @@ fn serve_plans<T: Host, W: Write>(
     source.ended(served.map_err(|fault| verdict_fault(fault, plans)))
 }
 
-/// A fault of a judgement, in the file that it is about.
+/// Turns a fault of a judgement into a fault of the call, which names the file at fault.
 fn verdict_fault(fault: VerdictFault, plans: &Plans<'_>) -> Fault {
     let about = match fault {
         VerdictFault::Times(_) => About::Value("times"),

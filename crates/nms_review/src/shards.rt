@@ -6,18 +6,18 @@ use crate::request::Path;
 use std::alloc::{AllocError, Global};
 use std::{fs, io};
 
-/// The shards of one name.
+/// The shards of one import, whose files have the same beginning of their names.
 #[derive(Drop)]
 pub(crate) struct Shards {
-    /// The beginning of the paths of their files.
+    /// The beginning of the paths of the shards' files.
     pub(crate) name: String,
-    /// The number of the last one.
+    /// The highest number of a shard. Shards are counted from 1.
     pub(crate) count: u64,
-    /// The argument that names their folder.
+    /// The argument of the call that names the folder of the shards.
     pub(crate) about: About,
 }
 
-/// The shards in a folder, and in the folders in it whose names don't begin with a point, by name.
+/// The shards in a folder and in its direct subfolders, sorted by name. Subfolders whose names begin with a point are skipped.
 pub(crate) fn shards_in<T: Host>(
     call: &Call<'_, T>,
     folder: Path<'_>,
@@ -35,7 +35,7 @@ pub(crate) fn shards_in<T: Host>(
     Ok(found)
 }
 
-/// Adds the shards that have files in a folder, and the folders in it.
+/// Lists a folder: adds its shards to `found`, and its subfolders to `below`.
 fn take_folder<T: Host>(
     call: &Call<'_, T>,
     path: &str,
@@ -58,7 +58,7 @@ fn take_folder<T: Host>(
     Ok(())
 }
 
-/// Adds the shard that has a file, or a folder.
+/// Adds one entry of a folder: a file of a shard adds its shard, and a subfolder adds its path.
 fn take_entry<T: Host>(
     call: &Call<'_, T>,
     path: &str,
@@ -82,7 +82,7 @@ fn take_entry<T: Host>(
     }
 }
 
-/// Adds a shard to those of its name.
+/// Adds a shard of the given name: the shards of this name then reach at least to its number.
 fn take_shard(
     alloc: Global,
     name: &str,
@@ -104,7 +104,8 @@ fn take_shard(
     Ok(())
 }
 
-/// The name and the number of the shard that has the file at a path. A number has at most six digits.
+/// The name and the number of the shard to which the file at a path belongs. The number has one to six digits, without a leading
+/// 0.
 fn shard_of(path: &str) -> Option<(&str, u64)> {
     for end in SHARD {
         if let Some(own) = path.strip_suffix(end) {

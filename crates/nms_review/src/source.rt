@@ -20,7 +20,7 @@ pub(crate) struct Source<'a, T, R> {
 }
 
 impl<'a, T: Clock + Eprint, R: Read + OpenFile> Source<'a, T, R> {
-    /// The source over an open file.
+    /// Begins the reading of an open file. Its progress is shown only if the standard error of the process shows progress.
     pub(crate) fn new(rt: &'a T, screen: Screen, file: R) -> Self {
         let progress = if screen.errors {
             progress_of(rt, &file)
@@ -43,7 +43,7 @@ impl<T: Clock + Eprint, R> Source<'_, T, R> {
         self.failed
     }
 
-    /// The end of a request that has read the file. The line of progress is removed.
+    /// Ends a request that has read the file, and removes the line of progress. A fault gets the system's reason.
     pub(crate) fn ended(&mut self, served: Result<Ending, Fault>) -> Result<Ending, Fault> {
         self.clear();
         match served {

@@ -1,5 +1,6 @@
 //! The report on a request that was not served.
 use crate::fault::{About, Fault};
+use crate::notices::BUILT_IN;
 use crate::words::{Sub, Words};
 use nms_codes::{Code, Matter};
 use nms_show::{Form, Item, ShowFault, write_line};
@@ -7,8 +8,8 @@ use std::io::{ErrorKind, Write};
 
 /// Reports a fault of a request, and gives the exit status.
 pub(crate) fn tell_fault<E: Write>(fault: &Fault, words: &Words<'_>, errors: &mut E) -> u8 {
-    if write_fault(fault, words, errors).is_ok() {
-        let _ = write_tip(fault, words, errors);
+    if write_fault(fault, words, errors).is_ok() && write_tip(fault, words, errors).is_ok() {
+        let _ = write_setup_tip(fault, words, errors);
     }
     fault.code.status()
 }
@@ -67,8 +68,27 @@ fn write_tip<E: Write>(fault: &Fault, words: &Words<'_>, errors: &mut E) -> Resu
     write_line(errors, Form::Text { colours: false }, &items)
 }
 
-/// The kind of the file that was refused, as `explain` names it. Only records and setups have places that it shows, and the files of
-/// a day are no arguments.
+/// Writes that the built-in setup was used, if a record names what its roster lacks. The subcommand `day` has a setup in each
+/// folder.
+fn write_setup_tip<E: Write>(
+    fault: &Fault,
+    words: &Words<'_>,
+    errors: &mut E,
+) -> Result<(), ShowFault> {
+    let is_unknown = matches!(fault.code, Code::L3 | Code::L4);
+    if is_unknown && words.command != Sub::Day && words.option("setup").is_none() {
+        write_line(
+            errors,
+            Form::Text { colours: false },
+            &[Item::Text(BUILT_IN)],
+        )
+    } else {
+        Ok(())
+    }
+}
+
+/// The kind of the refused file, as `explain` names it. There is none for the subcommands `explain` and `day`, nor for files
+/// whose places `explain` does not show.
 fn kind_of(fault: &Fault, command: Sub) -> Option<&'static str> {
     if matches!(command, Sub::Explain | Sub::Day) {
         return None;

@@ -26,7 +26,7 @@ pub(crate) fn serve_when<T: Host, W: Write>(
     }
 }
 
-/// The number of a version. A version at a time is found among these times, and within a symbol if there is one.
+/// The number of a version. A version that is given by a time is found among the given times, or among a symbol's changes only.
 pub(crate) fn number_of<T: Host>(
     call: &Call<'_, T>,
     version: &Version,
@@ -62,7 +62,7 @@ fn rising_of<'a, T: Host>(
     found.map_err(|fault| Fault::of_times(fault, about))
 }
 
-/// The versions of a symbol among the given number, by the file of symbols.
+/// The versions of one symbol, as the file of symbols lists them. The given number of versions is the length of the tape.
 pub(crate) fn span_of<T: Host>(
     call: &Call<'_, T>,
     within: Within<'_>,
@@ -112,7 +112,7 @@ fn write_versions<T: Host, W: Write>(
     Ok(Ending::Done)
 }
 
-/// Writes the time of a version. It also writes the row of its source, if the lines have rows.
+/// Writes the time of a version, and the number of the vendor's row if the file of times has such numbers.
 fn write_time<T: Host, W: Write>(
     call: &Call<'_, T>,
     text: &[u8],

@@ -8,7 +8,8 @@ use nms_times::Times;
 use nms_trades::{Layout, Timing, TradesFault, judge_file};
 use std::io::Write;
 
-/// Judges a file of executions. The arguments are tested first, then times are read. Both files are opened before either is read.
+/// Judges a file of executions. The arguments are tested first, then the times are read. The changes and the executions are
+/// opened before either is read.
 pub(crate) fn serve_trades<T: Host, W: Write>(
     call: &Call<'_, T>,
     trades: &Trades<'_>,
@@ -26,7 +27,7 @@ pub(crate) fn serve_trades<T: Host, W: Write>(
     }
 }
 
-/// Judges a file of executions whose versions are found by these times, if there are any.
+/// Judges a file of executions. If times are given, versions are found by them.
 fn serve_answers<T: Host, W: Write>(
     call: &Call<'_, T>,
     trades: &Trades<'_>,
@@ -50,7 +51,7 @@ fn serve_answers<T: Host, W: Write>(
     changes.ended(executions.ended(served))
 }
 
-/// A fault of executions. It is about their file, that of the changes, or the times.
+/// Turns a fault of the judgement into a fault of the call. It is about the executions, the changes or the times.
 pub(crate) fn trades_fault(fault: TradesFault, executions: About) -> Fault {
     match fault {
         TradesFault::Executions(_) | TradesFault::TooLong => Fault::of(fault.code(), executions),

@@ -15,7 +15,7 @@ use std::{io, str};
 /// A vendor's file that is being read.
 #[derive(Drop)]
 pub(crate) struct Rows<'a, T, R> {
-    /// Its first row, if that names the columns; else an empty one.
+    /// The file's first row, if it names the columns. Otherwise the row is empty.
     pub(crate) names: ByteRecord,
     /// The reader of the rows after the first one.
     pub(crate) reader: Reader<RowSource<Source<'a, T, R>>>,

@@ -89,7 +89,7 @@ fn read_all<R: Read>(
     unreachable!()
 }
 
-/// Reads and serves the record after the first `done`. Returns whether there was one.
+/// Reads and serves the next record of the script, after the given number of records. Returns whether there was one.
 fn advance<R: Read>(
     taking: &mut Taking,
     setup: &Setup,
@@ -129,7 +129,7 @@ fn advance<R: Read>(
     Ok(true)
 }
 
-/// Appends the change that was sent after those noted so far, if there is one.
+/// Appends the newest change that the script has sent, if it is not yet in the list.
 fn note_sent(flow: &Flow, sent: &mut Vec<Change>) -> Result<(), AllocError>
     ensures { (at : Standing) → StandsAt flow.now at → at.published ≤ length sent.old.items →
         OnOk result (sent.new.items ≡ sent.old.items ++ option_to_list (slice_get (changes_in at.sent) (length sent.old.items))) }
@@ -142,7 +142,7 @@ fn note_sent(flow: &Flow, sent: &mut Vec<Change>) -> Result<(), AllocError>
     Ok(())
 }
 
-/// The changes that were taken: a prefix of those sent.
+/// The changes that the script's machine took from its queue. They are the first ones of those that were sent.
 fn tape_of(taking: Taking) -> Vec<Change>
     ensures { (at : Standing) → StandsAt taking.flow at → taking.sent.items ≡ changes_in at.sent → result.items ≡ tape_at at }
 {

@@ -31,7 +31,7 @@ pub(crate) enum Sub {
     Compare,
 }
 
-/// What is explained.
+/// What `explain` is asked about: a kind of file, or a code.
 #[derive(Clone, Copy)]
 pub(crate) enum Kind {
     /// A file whose records are explained.
@@ -499,7 +499,7 @@ impl Sub {
         }
     }
 
-    /// What the help says about it.
+    /// The line about the subcommand in the help.
     pub(crate) fn about(self) -> &'static str {
         match self {
             Sub::Explain =>
@@ -522,7 +522,7 @@ impl Sub {
         }
     }
 
-    /// Its own arguments in order, and its options.
+    /// The subcommand's own arguments in order, and then its options.
     pub(crate) fn words(self) -> &'static [Word] {
         match self {
             Sub::Explain => EXPLAIN.as_slice(),
