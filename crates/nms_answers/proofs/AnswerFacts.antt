@@ -1,8 +1,6 @@
 -- What was appended is the script's answer on the version that the desk looked at.
 use Rattle.std.proofs.Common.{ℕ, ◌≡◌, ◌<◌, ◌++◌, List, [], ◌∷◌, Option, Ok, length, refl, ap, sym, subst, ◌∙◌}
 use Rattle.std.specs.Prelude.{All}
-use Rattle.std.specs.List.{filter}
-use Rattle.std.proofs.lemmas.List.Elements.{All-append, All-filter, All-map}
 use Rattle.nms_quote.specs.Roster.{Sizes, sizes_of}
 use Rattle.nms_quote.specs.Tape.{Tape}
 use Rattle.nms_quote.specs.Terms.{Terms}
@@ -18,7 +16,7 @@ use Rattle.nms_fees.specs.Settings.{Settings}
 use Rattle.nms_lines.specs.PlanText.{plan_records}
 use Rattle.nms_lines.specs.Text.{text_of}
 use Rattle.nms_rules.specs.Accepted.{IsAccepted}
-use Rattle.nms_rules.specs.Through.{is_through, through_on, traded_through_at}
+use Rattle.nms_rules.specs.Through.{traded_through_at}
 use Rattle.nms_flow.specs.Run.{Event}
 use Rattle.nms_flow.specs.declared.step.Step.TheVariants as step
 use Rattle.nms_flow.specs.declared.reply.Reply.TheVariants as reply
@@ -85,18 +83,3 @@ tells_plan settings old new number order version view plan cuts before after siz
   (view, plan, cuts, seen_there settings old number order.sym version view sizes is, accepted, refl),
   text,
 )
-
--- what a price trades through is of the participants whose rows are seen
-side_parts : (parts : ℕ) (side : Side) (rows : List Row) (price : ℕ) → All (λ (row : Row). row.part < parts) rows
-    → All (λ (quotation : Side × Row). quotation.1.part < parts) (through_on side rows price)
-side_parts parts side rows price all =
-    All-map (λ (quotation : Side × Row). quotation.1.part < parts) (λ (row : Row). (side, row)) (filter (is_through side price) rows)
-    (All-filter (is_through side price) (λ (row : Row). row.part < parts) rows all)
-
-pub through_parts : (parts : ℕ) (seen : Seen) (price : ℕ) (quotations : List (Side × Row)) → quotations ≡ traded_through_at seen price
-    → ((side : Side) → All (λ (row : Row). row.part < parts) (rows_on side seen))
-    → All (λ (quotation : Side × Row). quotation.1.part < parts) quotations
-through_parts parts seen price quotations same all =
-    subst (All (λ (quotation : Side × Row). quotation.1.part < parts)) (sym same)
-    (All-append (λ (quotation : Side × Row). quotation.1.part < parts) (through_on Bid seen.bids price) (through_on Offer seen.offers price)
-    (side_parts parts Bid seen.bids price (all Bid)) (side_parts parts Offer seen.offers price (all Offer)))

@@ -10,7 +10,7 @@ use thiserror::Error;
 pub enum AnswerFault {
     /// E1: the requests could not be read.
     ReadFault,
-    /// E2: an answer could not be written. A prefix of it may have been.
+    /// E2: an answer could not be written. A prefix of the answer may have been written.
     WriteFault,
     /// E3: there are more than 2^40 requests.
     TooLong,

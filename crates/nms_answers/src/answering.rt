@@ -1,12 +1,8 @@
 //! Answering one request of a known kind on what a desk sees (specs/Told).
-ghost use Rattle.std.specs.Prelude.{◌≡◌, ◌<◌, ◌++◌, length, All, IfErr, IfOk, OnErr, OnOk};
+ghost use Rattle.std.specs.Prelude.{◌≡◌, ◌<◌, length, IfOk, OnErr, OnOk};
 ghost use Rattle.nms_quote.specs.Roster.{sizes_of};
 ghost use Rattle.nms_quote.specs.Tape.{Tape};
-ghost use Rattle.nms_quote.specs.declared.side_quote.Side.{Side};
-ghost use Rattle.nms_board.specs.View.{rows_on, view_of};
-ghost use Rattle.nms_lines.specs.Text.{text_of};
-ghost use Rattle.nms_rules.specs.Through.{traded_through_at};
-ghost use Rattle.nms_text.specs.Answers.{through_records};
+ghost use Rattle.nms_board.specs.View.{view_of};
 ghost use Rattle.nms_answers.specs.Told.{AppendsOn, KeepsKnown, Looks, TellsBest, TellsPlan, TellsThrough};
 
 use crate::answer_fault::AnswerFault;
@@ -14,16 +10,15 @@ use nms_board::View;
 use nms_fees::Setup;
 use nms_lines::append_plan;
 use nms_nbbo::best;
-use nms_quote::{Order, Roster, Side, Sym};
-use nms_rules::traded_through;
+use nms_quote::{Order, Side, Sym};
+use nms_scripts::tell_through;
 use nms_sweep::plan;
-use nms_text::{tell_best, tell_through_head, tell_through_rows};
+use nms_text::tell_best;
 use nms_units::Price;
 use nms_versions::Desk;
-use std::alloc::AllocError;
 
-/// `N`: looks, and appends the best bid and the best offer that the desk saw (17 CFR 242.600). `number` is the desk's number as
-/// the record names it.
+/// Answers a record `N`: the desk looks, and the best bid and the best offer that it saw are appended (17 CFR 242.600).
+/// `number` is the desk's number as the record names it.
 ///
 /// `NoReading` leaves the desk and the text as they were. `NoMemory` may leave a part of the answer appended.
 pub fn answer_best(
@@ -55,8 +50,9 @@ pub fn answer_best(
     }
 }
 
-/// `E`: looks, and appends the protected quotations that the desk saw and that a trade at the price trades through (17 CFR
-/// 242.611). `price` is in 1/10,000 dollar. `NoReading` and `NoMemory` as in `answer_best`.
+/// Answers a record `E` (17 CFR 242.611). The desk looks, and appends the protected quotations that it saw and that a trade at
+/// the price trades through. `price` is in 1/10,000 dollar. `NoReading` leaves the desk and the text as they were. `NoMemory`
+/// may leave a part of the answer appended.
 pub fn answer_through(
     desk: &mut Desk,
     setup: &Setup,
@@ -77,35 +73,9 @@ pub fn answer_through(
     }
 }
 
-/// Appends the protected quotations that a desk saw and that a trade at the price trades through.
-fn tell_through(
-    out: &mut Vec<u8>,
-    roster: &Roster,
-    number: u8,
-    view: &View,
-    price: Price,
-) -> Result<(), AllocError>
-    requires sym { view.now.sym < length roster.now.syms }
-    requires parts { (side : Side) → All (λ row. row.part < length roster.now.parts) (rows_on side view.now) }
-    ensures { OnOk result (out.new.items ≡ out.old.items
-        ++ text_of (through_records roster.now number view.now price (traded_through_at view.now price))) }
-{
-    let quotations = traded_through(view, price);
-    let count = quotations.len();
-    tell_through_head(
-        out,
-        roster,
-        number,
-        view.sym(),
-        view.version(),
-        price,
-        count,
-    )?;
-    tell_through_rows(out, roster, quotations.as_slice())
-}
-
-/// `O`: looks, plans the order on what the desk saw, and appends the plan with its certificate (17 CFR 242.600,
-/// "intermarket sweep order"; 242.611(b)(5) and (6)). `NoReading` and `NoMemory` as in `answer_best`.
+/// Answers a record `O`: the desk looks, and plans the order on what it saw. The plan is appended with its certificate (17 CFR
+/// 242.600, "intermarket sweep order"; 242.611(b)(5) and (6)). `NoReading` leaves the desk and the text as they were.
+/// `NoMemory` may leave a part of the answer appended.
 pub fn answer_order(
     desk: &mut Desk,
     setup: &Setup,

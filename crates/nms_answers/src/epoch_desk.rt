@@ -25,9 +25,10 @@ pub trait LaterDesks {
         ensures later { IfSome result (λ next. epoch < next.epoch) }
         ensures sizes { IfSome result (λ next. next.desk.sizes ≡ sizes) };
 
-    /// Called before an answer is written, with its text, the request that it answers, and the epoch in which it does.
+    /// Called before an answer is written. It gets the answer's text, the request that it answers, and the epoch in which the
+    /// answer was made.
     fn take_down(&self, epoch: u64, request: &ByteRecord, answer: &[u8]);
 
-    /// Called after an answer was written; `refused` if it is an `ERR` record.
+    /// Called after an answer was written. `refused` holds if the answer is an `ERR` record.
     fn note_answer(&self, refused: bool);
 }

@@ -13,11 +13,10 @@ use nms_fees::Setup;
 use nms_lines::{ByteRecord, end_record, push_number};
 use std::alloc::AllocError;
 
-/// Answers the request with this number, counted from 1, as `answer_request` does, in the latest epoch. The text is only the
-/// answer, or `EPOCH,k` and the answer if the client went over to epoch k for it. A desk whose epoch ends meanwhile goes over
-/// as well.
+/// Answers the request with this number, counted from 1, in the latest epoch. The text is only the answer, or `EPOCH,k` and the
+/// answer if the client went over to epoch k for it. A desk whose epoch ends meanwhile goes over as well.
 ///
-/// `NoReading` if the desk had no reading and there was no later epoch; `NoMemory` as in `answer_request`.
+/// `NoReading` if the desk had no reading and there was no later epoch. `NoMemory` may leave a part of the answer in the text.
 pub fn answer_latest<L: LaterDesks>(
     desk: &mut EpochDesk,
     later: &L,
@@ -64,7 +63,7 @@ fn go_over<L: LaterDesks>(desk: &mut EpochDesk, later: &L) -> bool
     }
 }
 
-/// Answers the request in the desk's epoch. The epoch's line comes first if the client was in another.
+/// Answers the request in the desk's epoch k. If the client was in another epoch before, the line `EPOCH,k` comes first.
 fn answer_here(
     desk: &mut EpochDesk,
     setup: &Setup,
@@ -85,7 +84,7 @@ fn answer_here(
     answer_request(&mut desk.desk, setup, row, number, text)
 }
 
-/// Appends the line of an epoch, unless it is the first.
+/// Appends the line `EPOCH,k` of an epoch k, unless the client was in that epoch already.
 fn tell_epoch(text: &mut Vec<u8>, first: u64, epoch: u64) -> Result<(), AllocError>
     ensures { OnOk result (text.new.items ≡ text.old.items ++ text_of (epoch_line first epoch)) }
 {

@@ -57,7 +57,7 @@ fn read_request(row: &ByteRecord, setup: &Setup) -> Result<Line, LineFault>
     read_line(row, setup.roster(), Reading::Script { desks })
 }
 
-/// Whether a kind asks for a look.
+/// Whether a record of a kind asks for a look at what is published: a record `N`, `E` or `O`.
 fn is_asked(kind: Option<Kind>) -> bool
     ensures { result ≡ is_asked kind }
 {

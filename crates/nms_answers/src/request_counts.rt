@@ -5,6 +5,6 @@
 pub struct RequestCounts {
     /// How many requests were answered, at most 2^40.
     pub requests: u64,
-    /// How many of them were refused, by an `ERR` record.
+    /// How many requests were refused, by an `ERR` record.
     pub refused: u64,
 }

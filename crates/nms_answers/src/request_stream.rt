@@ -24,7 +24,7 @@ use std::io::{Read, Write};
 /// The outcome of one more request.
 #[derive(Clone, Copy)]
 pub enum Progress {
-    /// The request was answered; `refused` by an `ERR` record.
+    /// The request was answered. `refused` holds if the answer is an `ERR` record.
     Answered { refused: bool },
     /// There was no further request.
     Ended,
@@ -36,7 +36,7 @@ pub enum Progress {
 /// the end of the stream.
 ///
 /// After `ReadFault`, `TooLong`, `NoMemory` or `NoReading` the answers to the requests before were written completely. After
-/// `WriteFault` a prefix of one more was written.
+/// `WriteFault` a prefix of the next answer was written too.
 pub fn answer_stream<R: Read + Drop, W: Write, L: LaterDesks>(
     alloc: Global,
     setup: &Setup,
@@ -49,7 +49,7 @@ pub fn answer_stream<R: Read + Drop, W: Write, L: LaterDesks>(
     requires sizes { desk.old.desk.sizes ≡ sizes_of setup.now.roster }
     // All requests were answered in order, and nothing else was written.
     ensures answered { IfOk result (AnswersAll setup.now (option_map whole_lines (R.remaining requests)) desk.old desk.new (W.contents answers.old) (W.contents answers.new)) }
-    // The same holds for the first requests.
+    // After a fault other than `WriteFault`, the first requests were answered in order, and nothing else was written.
     ensures stopped { IfErr result (λ fault. fault ≢ AnswerFault.WriteFault → AnswersFirst setup.now (option_map whole_lines (R.remaining requests)) desk.old desk.new (W.contents answers.old) (W.contents answers.new)) }
     ensures cut { IfErr result (λ fault. fault ≡ AnswerFault.WriteFault → AnswersInPart setup.now (option_map whole_lines (R.remaining requests)) desk.old desk.new (W.contents answers.old) (W.contents answers.new)) }
     ensures knows { KeepsEpochs desk.old desk.new }
@@ -96,7 +96,7 @@ fn answer_records<R: Read, W: Write, L: LaterDesks>(
     unreachable!()
 }
 
-/// Reads and answers the request after the first `done`, if there is one.
+/// Reads and answers the next request, if there is one. `done` says how many requests came before.
 fn advance<R: Read, W: Write, L: LaterDesks>(
     setup: &Setup,
     desk: &mut EpochDesk,

@@ -5,7 +5,7 @@
 pub struct Counts {
     /// How many records were read, at most 10,000,000.
     pub records: u64,
-    /// How many of them were answered by an `ERR` record.
+    /// How many of the records were refused, each by an `ERR` record.
     pub refused: u64,
     /// How many changes were taken to the tape.
     pub tape: u64,

@@ -13,3 +13,4 @@ pub use counts::Counts;
 pub use nms_text::ScriptFault;
 pub use script::{read as read_record, run_script};
 pub use script_record::serve;
+pub use through::tell_through;

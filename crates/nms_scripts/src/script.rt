@@ -24,9 +24,9 @@ use std::io::{Read, Write};
 /// The outcome of one more record.
 #[derive(Clone, Copy)]
 pub enum Progress {
-    /// The record was answered; `refused` by an `ERR` record.
+    /// The record was answered. If `refused` is true, the answer is an `ERR` record.
     Answered { refused: bool },
-    /// There was no record.
+    /// There was no further record.
     Ended,
 }
 
@@ -86,7 +86,8 @@ fn answer_records<R: Read, W: Write>(
     unreachable!()
 }
 
-/// Reads and answers the record after the first `done`, if there is one.
+/// Makes the parts of a script: the machine of a setup, a planner, and buffers for a record and its answer. `NoMemory` if out
+/// of memory.
 fn open(alloc: Global, setup: &Setup) -> Result<Script, ScriptFault>
     ensures room { IfOk result (λ script. room_of script.flow ≡ room_under setup.now) }
     ensures stands { IfOk result (λ script. IsAfter script.flow []) }
@@ -103,7 +104,7 @@ fn open(alloc: Global, setup: &Setup) -> Result<Script, ScriptFault>
     })
 }
 
-/// Reads and answers the record after the first `done`, if there is one.
+/// Reads the next record and answers it, if there is one. The caller gives how many records were read before it.
 fn advance<R: Read, W: Write>(
     script: &mut Script,
     setup: &Setup,
@@ -142,7 +143,7 @@ fn advance<R: Read, W: Write>(
     Ok(Progress::Answered { refused })
 }
 
-/// Writes an answer, if there is one. Most records have none, and use no writer.
+/// Writes the answer to a record, if there is one. Most records have no answer, and use no writer.
 fn tell_answer<W: Write>(writer: &mut W, answer: &[u8]) -> Result<(), ScriptFault>
     ensures written { OnOk result (Appends (W.contents writer.old) (W.contents writer.new) answer.now) }
     ensures part { OnErr result (AppendsPart (W.contents writer.old) (W.contents writer.new) answer.now) }

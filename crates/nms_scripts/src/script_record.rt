@@ -50,7 +50,7 @@ fn refuse(flow: &Flow, number: u64, fault: LineFault, out: &mut Vec<u8>) -> Resu
     Ok(true)
 }
 
-/// Answers a line of the roster.
+/// Answers a record that was read without a fault, by its kind.
 fn serve_line(
     flow: &mut Flow,
     setup: &Setup,
@@ -78,7 +78,7 @@ fn serve_line(
     }
 }
 
-/// Sends a change on the feed that it belongs to.
+/// Sends a change to the queue, on the feed that it belongs to.
 fn serve_change(
     flow: &mut Flow,
     roster: &Roster,
@@ -98,7 +98,7 @@ fn serve_change(
     }
 }
 
-/// Appends the record that refuses a step.
+/// Appends the `ERR` record for a step that the machine refused.
 fn refuse_step(out: &mut Vec<u8>, number: u64, fault: StepFault) -> Result<bool, AllocError>
     ensures { IfOk result (λ refused. (refused ≡ true) × (out.new.items ≡ out.old.items ++ text_of (told_by number (Err fault)))) }
 {
@@ -106,7 +106,7 @@ fn refuse_step(out: &mut Vec<u8>, number: u64, fault: StepFault) -> Result<bool,
     Ok(true)
 }
 
-/// Takes one change. Out of memory ends the script.
+/// Takes one change from the queue to the tape. Out of memory ends the script.
 fn serve_take(flow: &mut Flow, number: u64, out: &mut Vec<u8>) -> Result<bool, AllocError>
     ensures served { IfOk result (Serves (AsksOne number step.Take) flow.old flow.new (Some out.old.items) (Some out.new.items)) }
     ensures room { room_of flow.new ≡ room_of flow.old }
@@ -123,8 +123,8 @@ fn serve_take(flow: &mut Flow, number: u64, out: &mut Vec<u8>) -> Result<bool, A
     }
 }
 
-/// Takes until the queue is empty, then publishes. A full tape ends it, and what was taken stays. Out of memory ends
-/// the script.
+/// Takes changes from the queue to the tape until the queue is empty, then publishes the tape. A full tape ends the taking, and
+/// what was taken stays. Out of memory ends the script.
 fn serve_take_all(flow: &mut Flow, number: u64, out: &mut Vec<u8>) -> Result<bool, AllocError>
     ensures served { IfOk result (Serves (AsksAll number) flow.old flow.new (Some out.old.items) (Some out.new.items)) }
     ensures room { room_of flow.new ≡ room_of flow.old }

@@ -16,7 +16,7 @@ use nms_text::{tell_through_head, tell_through_rows};
 use nms_units::Price;
 use std::alloc::AllocError;
 
-/// Whether a price is worse than a best bid or a best offer: a lower or a higher one.
+/// Whether a price is below the best bid, or above the best offer.
 pub fn is_beyond(best: &BestRows, price: Price) -> bool
     ensures bid { result ≡ false → IfSome best.now.bid (λ row. better_price Bid row.price price ≡ false) }
     ensures offer { result ≡ false → IfSome best.now.offer (λ row. better_price Offer row.price price ≡ false) }

@@ -1,9 +1,0 @@
--- `tell_through`: the call of `tell_through_rows`, by `through_parts`.
-use Rattle.std.proofs.Common.{length, ◌∙◌}
-use Rattle.nms_answers.proofs.AnswerFacts.{through_parts}
-use Rattle.nms_answers.proofs.answering.tell_through.Goals as goal
-
-pub tell_through_rows-requires : goal.tell_through_rows-requires
-tell_through_rows-requires c =
-    through_parts (length c.args.roster.now.parts) c.args.view.now c.args.price c.as_slice.result.now
-    (c.as_slice.ensures.value ∙ c.traded_through-quotations.ensures) c.requires.parts
