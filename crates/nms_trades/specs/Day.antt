@@ -1,6 +1,9 @@
 -- A day that is cut into shards: what its shards say together about a record of a file of executions. Exactly one of them may judge it.
 -- This product's own rule.
-use Rattle.std.specs.Prelude.{ℕ, ◌≡◌, ◌+◌, Bool, true, false, List, [], ◌∷◌, cond, count_by, filter, length, Option, Some, None}
+use Rattle.std.specs.Prelude.{ℕ, ◌≡◌, ◌+◌, ◌==◌, Bool, true, false, not, List, [], ◌∷◌, cond, count_by, filter, length}
+use Rattle.std.specs.Prelude.{Option, Some, None, if◌then◌else◌}
+use Rattle.nms_show.specs.declared.ending.Ending.{Ending}
+use Rattle.nms_show.specs.declared.ending.Ending.TheVariants as ending
 use Rattle.nms_quote.specs.Roster.{Listing}
 use Rattle.nms_quote.specs.Tape.{Tape}
 use Rattle.nms_trades.specs.Counts.{is_judged, is_noquote, is_perhaps, is_through, stands}
@@ -55,6 +58,24 @@ once said = cond (is_here said) 1 0
 -- records are judged
 abbrev pub judged_among : List Said → ℕ
 judged_among all = count_by is_here all
+
+-- whether it is refused: no shard has its symbol, or one that has it refuses it
+abbrev pub is_refused : Said → Bool
+is_refused said.Unknown = true
+is_refused (said.Refused fault) = true
+is_refused said.Elsewhere = false
+is_refused (said.Here line) = false
+
+-- how the answer to all records ends, by how many of them are refused
+abbrev pub end_by : ℕ → Ending
+end_by refused = if refused == 0 then ending.Done else ending.Refused
+
+abbrev pub end_of : List Said → Ending
+end_of all = end_by (count_by is_refused all)
+
+-- whether a shard was asked: then the table names its participants
+abbrev pub is_begun : Day → Bool
+is_begun day = not (length day.tally.names.parts.items == 0)
 
 -- the counts of all executions of a table are those of an earlier one and of more findings together
 pub record AreSums (old : Tally) (found : List (Option Finding)) (new : Tally) : Type 0 where

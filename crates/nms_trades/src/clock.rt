@@ -23,9 +23,10 @@ pub struct Timing<'a> {
     pub times: &'a Times,
     /// The text of the file of symbols, if the times rise only within a symbol. For a shard it also says which symbols are cut.
     pub symbols: Option<&'a [u8]>,
-    /// Whether the changes of an execution's own time are left out.
+    /// Whether changes at exactly the time of an execution are taken as not yet in force.
     pub before: bool,
-    /// How many nanoseconds before and after its time an execution is judged on too.
+    /// The half-width of an execution's window, in nanoseconds. The execution is also judged on the versions in force within
+    /// this time before and after it.
     pub window: u64,
 }
 
@@ -38,11 +39,13 @@ pub(crate) struct Clock<'a> {
     pub(crate) has_times: bool,
     /// The times of the changes of each symbol, by its place. If the times rise over all symbols, they are all times.
     pub(crate) rising: Vec<Option<Rising<'a>>>,
-    /// The part of the day that the changes have of each symbol, by its place. For a symbol that is not here it is the whole day.
+    /// The part of the day for which the shard has the changes of each symbol, by its place. A symbol that is not in the list
+    /// has the complete day.
     pub(crate) stretches: Vec<Stretch>,
-    /// Whether the changes of an execution's own time are left out.
+    /// Whether changes at exactly the time of an execution are taken as not yet in force.
     pub(crate) before: bool,
-    /// How many nanoseconds before and after its time an execution is judged on too.
+    /// The half-width of an execution's window, in nanoseconds. The execution is also judged on the versions in force within
+    /// this time before and after it.
     pub(crate) window: u64,
 }
 
@@ -51,9 +54,9 @@ pub(crate) struct Clock<'a> {
 pub(crate) struct When {
     /// The version that was in force.
     pub(crate) version: u64,
-    /// The first version of its window.
+    /// The first version of the execution's window.
     pub(crate) first: u64,
-    /// The last version of its window.
+    /// The last version of the execution's window.
     pub(crate) last: u64,
     /// The version that was in force one second before; `version` if the time is not known.
     pub(crate) second_before: u64,
@@ -117,7 +120,7 @@ impl Clock<'_> {
         }
     }
 
-    /// The part of the day that the changes have of the symbol at a place.
+    /// The part of the day for which the shard has the changes of the symbol at this place.
     fn stretch_in(&self, place: usize) -> Stretch
         ensures { result ≡ stretch_in self.now.stretches.items place }
     {
@@ -128,7 +131,7 @@ impl Clock<'_> {
         }
     }
 
-    /// When an execution at a time was made, by the times of a part of the day.
+    /// The versions that matter for an execution at this time. It also says whether another shard judges the execution.
     fn timed(&self, rising: &Rising<'_>, stretch: Stretch, time: TimeOfDay) -> When
         requires { rising.now.before + length rising.now.times.now ≤ self.now.changes }
         ensures when { result ≡ timed self.now stretch rising.now time }
@@ -150,7 +153,7 @@ impl Clock<'_> {
     }
 }
 
-/// The version in force at a time, or before it.
+/// The version in force at a time. If `before` is set, changes at exactly that time are not yet in force.
 fn version_by(before: bool, rising: &Rising<'_>, time: TimeOfDay) -> u64
     ensures version { result ≡ version_by before rising.now time }
     ensures high { result ≤ rising.now.before + length rising.now.times.now }
@@ -162,7 +165,7 @@ fn version_by(before: bool, rising: &Rising<'_>, time: TimeOfDay) -> u64
     }
 }
 
-/// The text after `@`.
+/// The text after a leading `@`; `None` if the text does not begin with `@`.
 fn time_text(text: &[u8]) -> Option<&[u8]>
     ensures at { IfSome result (λ digits. (slice_index text.now 0 ≡ 64) × (digits.now ≡ drop 1 text.now)) }
     ensures other { result ≡ None → slice_index text.now 0 ≢ 64 }
@@ -215,7 +218,7 @@ pub(crate) fn clock_of<'a>(
     })
 }
 
-/// All times, given for each symbol.
+/// The times of all changes, repeated for each symbol, because they rise over all symbols.
 fn over_all<'a>(
     alloc: Global,
     roster: &Roster,
@@ -267,7 +270,7 @@ fn stretches_of(
 ) -> Result<Vec<Stretch>, TradesFault>
     ensures { IfErr result (IsTimingFault (Some text.now) times.now) }
 {
-    // The parameter is there because the clause speaks of the times.
+    // The function takes the times only because its contract mentions them.
     let _ = times;
     let mut all = Vec::new(alloc);
     for place in 0..roster.syms() as u16 {

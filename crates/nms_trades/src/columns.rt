@@ -60,7 +60,7 @@ pub(crate) fn append_finding_row(
     end_record(out)
 }
 
-/// Appends a number as the first field.
+/// Appends the number of a record as the first field of its line.
 fn append_first(out: &mut Vec<u8>, number: u64) -> Result<(), AllocError>
     ensures { OnOk result (out.new.items ≡ out.old.items ++ decimal number) }
 {
@@ -78,7 +78,7 @@ fn append_named(out: &mut Vec<u8>, execution: &Execution) -> Result<(), AllocErr
     push_time(out, execution.time)
 }
 
-/// Appends what was traded, and what was found.
+/// Appends what an execution traded, and what was found about it.
 #[tactic(auto, using(crate::proofs::ColumnFacts::two_parts))]
 fn append_later(
     out: &mut Vec<u8>,
@@ -92,7 +92,7 @@ fn append_later(
     append_found(out, roster, execution, finding)
 }
 
-/// Appends what was traded.
+/// Appends the symbol, the side, the price, the shares and the exchange of an execution.
 fn append_trade(out: &mut Vec<u8>, roster: &Roster, execution: &Execution) -> Result<(), AllocError>
     ensures { OnOk result (out.new.items ≡ out.old.items ++ later_fields (trade_fields roster.now execution.now)) }
 {
@@ -142,7 +142,7 @@ fn append_judged(
     push_quote(out, execution, finding)
 }
 
-/// Appends what an execution traded through.
+/// Appends the causes, the number of rows, the greatest difference, its participant and the shares of a trade-through.
 fn push_through(
     out: &mut Vec<u8>,
     roster: &Roster,
@@ -180,7 +180,7 @@ fn push_causes(
     Ok(())
 }
 
-/// The participant of the first remaining quotation that has this difference.
+/// The participant of the first quotation that was traded through by this difference and that self-help does not take out.
 fn worst_by(execution: &Execution, worst: u64, passed: &[(Side, Row)]) -> Option<Part>
     ensures { result ≡ worst_by execution.now worst passed.now }
 {
@@ -192,14 +192,14 @@ fn worst_by(execution: &Execution, worst: u64, passed: &[(Side, Row)]) -> Option
     None
 }
 
-/// Whether a quotation remains and has this difference.
+/// Whether a quotation was traded through by this difference, and self-help does not take it out.
 fn is_worst(execution: &Execution, worst: u64, passed: &(Side, Row)) -> bool
     ensures { result ≡ is_worst execution.now worst passed.now }
 {
     !is_helped(execution, &passed.1) && difference(&passed.1, execution.millionths) == worst
 }
 
-/// Appends the best quotations, and the quality of an execution next to them.
+/// Appends the best quotations, and the quality of an execution compared with them.
 #[tactic(auto, using(crate::proofs::ColumnFacts::two_parts))]
 fn push_quote(out: &mut Vec<u8>, execution: &Execution, finding: &Finding) -> Result<(), AllocError>
     ensures { OnOk result (out.new.items ≡ out.old.items ++ later_fields (quote_fields execution.now finding.now)) }
@@ -245,7 +245,7 @@ fn push_quality(out: &mut Vec<u8>, quality: Option<Quality>) -> Result<(), Alloc
     }
 }
 
-/// Appends a comma, and an improvement, if it is known.
+/// Appends a comma, and the price improvement of a share, if it is known.
 fn push_improvement(out: &mut Vec<u8>, improvement: Option<Money>) -> Result<(), AllocError>
     ensures { OnOk result (out.new.items ≡ out.old.items ++ 44 ∷ improvement_field improvement) }
 {

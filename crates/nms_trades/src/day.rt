@@ -1,7 +1,7 @@
 //! The executions of a day that is cut into shards, each judged in exactly one of them: `specs/Day`.
-ghost use Rattle.std.specs.Prelude.{◌≡◌, ◌+◌, [], IfOk, OnOk, cond, filter, length};
+ghost use Rattle.std.specs.Prelude.{◌≡◌, ◌+◌, [], IfOk, OnOk, cond, count_by, false, filter, length};
 ghost use Rattle.nms_trades.specs.Counts.{is_judged, stands};
-ghost use Rattle.nms_trades.specs.Day.{AreSums, HasShard, is_here, judged_among, once};
+ghost use Rattle.nms_trades.specs.Day.{AreSums, HasShard, end_of, is_begun, is_here, is_refused, judged_among, once};
 
 use crate::clock::Timing;
 use crate::columns::{append_finding_row, append_names, append_refusal_row};
@@ -25,22 +25,23 @@ use std::io::{Read, Write};
 /// What the shards of a day say about the records of a file of executions.
 #[derive(Drop)]
 pub struct Day {
-    /// What is said about each record, by its number.
+    /// What the shards said about each record, in the order of the records' numbers.
     said: Vec<Said>,
-    /// The lines of the executions that were judged, each after its shard.
+    /// The lines of the executions that were judged. Each line begins with the name of its shard.
     text: Vec<u8>,
-    /// The counts of all of them.
+    /// The counts and sums of all executions, over all shards.
     tally: Tally,
 }
 
 impl Day {
-    /// A day of which no shard was asked.
+    /// A day to which no shard has been added yet.
     pub fn new(alloc: Global) -> Day
         ensures records { judged_among result.said.items ≡ 0 }
         ensures executions { result.tally.all.executions ≡ 0 }
         ensures unquoted { result.tally.all.unquoted ≡ 0 }
         ensures perhaps { result.tally.all.perhaps.executions ≡ 0 }
         ensures through { result.tally.all.through.executions ≡ 0 }
+        ensures begun { is_begun result ≡ false }
     {
         Day {
             said: Vec::new(alloc),
@@ -49,13 +50,15 @@ impl Day {
         }
     }
 
-    /// Whether a shard was asked.
-    pub fn is_begun(&self) -> bool {
+    /// Whether any shard has been added to the day.
+    pub fn is_begun(&self) -> bool
+        ensures { result ≡ is_begun self.now }
+    {
         !self.tally.names.parts.is_empty()
     }
 
-    /// Judges those executions of a file that are of this shard, as `judge_file` does, and adds them to the day. The file is the
-    /// same for each shard.
+    /// Judges those executions of a file that belong to this shard, each on the version that was in force at its time. It adds
+    /// the findings to the day. The same file is given for each shard.
     ///
     /// After a fault the day is of no use.
     pub fn judge_shard<R: Read + Drop>(
@@ -175,7 +178,7 @@ impl Day {
         Ok(())
     }
 
-    /// What a shard says about an execution. If it judges it, its line is added.
+    /// What a shard says about an execution. If the shard judges it, the line of the execution is added to the text of the day.
     fn said_of(
         &mut self,
         roster: &Roster,
@@ -222,15 +225,19 @@ impl Day {
     }
 
     /// How many records are refused.
-    fn refused(&self) -> u64 {
+    fn refused(&self) -> u64
+        ensures { result ≡ count_by is_refused self.now.said.items }
+    {
         self.said
             .iter()
             .filter(|said| said.refusal().is_some())
             .count() as u64
     }
 
-    /// How a call that answers the records ends.
-    pub fn ending(&self) -> Ending {
+    /// How a call ends that writes the findings: `Refused` if any record is refused, else `Done`.
+    pub fn ending(&self) -> Ending
+        ensures { result ≡ end_of self.now.said.items }
+    {
         if self.refused() == 0 {
             Ending::Done
         } else {
@@ -238,7 +245,8 @@ impl Day {
         }
     }
 
-    /// The number of a record that another shard judges, but none did; the first of several.
+    /// The number of the first record that a shard left to another one, but that no shard judged; `None` if there is no such
+    /// record.
     fn left(&self) -> Option<u64> {
         let place = self
             .said
@@ -258,8 +266,8 @@ impl Day {
         Ok(order)
     }
 
-    /// Writes the findings as columns, under a line of their names: those of `write_columns` after the shard. There is one line
-    /// for each record, by time.
+    /// Writes one line of columns for each record, in the order of their times, under a line with the names of the columns. The
+    /// first column is the shard.
     pub fn write_findings<W: Write>(&self, answers: &mut W) -> Result<(), DayFault> {
         if let Some(number) = self.left() {
             return Err(DayFault::Nowhere(number));
@@ -292,7 +300,7 @@ impl Day {
         Ok(())
     }
 
-    /// Writes the counts and sums of all executions, as `write_table` does.
+    /// Writes the counts and sums of all executions of the day, as tables or as JSON objects.
     pub fn write_table<W: Write>(&self, form: Form, answers: &mut W) -> Result<(), DayFault> {
         let alloc = *self.said.allocator();
         match print_tally(alloc, &self.tally, self.refused(), form, answers) {
@@ -302,7 +310,7 @@ impl Day {
     }
 }
 
-/// The time by which a record is put in order.
+/// The number by which records are put in the order of their times. A record that no shard judged comes after all others.
 fn time_of(said: Option<&Said>) -> u64 {
     match said {
         Some(Said::Here(line)) => line.time.get(),
@@ -317,7 +325,7 @@ fn append_shard(text: &mut Vec<u8>, shard: &str) -> Result<(), AllocError> {
     Ok(())
 }
 
-/// Gives a writer a text.
+/// Writes a text to the output.
 fn give<W: Write>(answers: &mut W, text: &[u8]) -> Result<(), DayFault> {
     match write_text(answers, text) {
         Ok(()) => Ok(()),

@@ -6,7 +6,7 @@ use std::alloc::AllocError;
 /// Why the executions of a day were not judged.
 #[derive(Clone, Copy)]
 pub enum DayFault {
-    /// A shard's files or the executions are at fault, or what is written, as for one file of changes.
+    /// The files of a shard, the file of executions or the output is at fault, as when one file of changes is judged.
     Trades(TradesFault),
     /// The execution with this number names a version, which means nothing without its shard.
     Untimed(u64),

@@ -11,9 +11,9 @@ pub(crate) const MOST_NAME: usize = 32;
 /// Whether an execution bought or sold. That is not judged, because a trade is both.
 #[derive(Clone, Copy)]
 pub enum Deal {
-    /// `B`
+    /// The execution bought, which a record writes as `B`.
     Bought,
-    /// `S`
+    /// The execution sold, which a record writes as `S`.
     Sold,
 }
 
@@ -42,7 +42,7 @@ pub struct Execution {
     pub second_before: u64,
     /// The time of day, if the record has one.
     pub time: Option<TimeOfDay>,
-    /// Whether another shard has the changes of its symbol at that time, and judges it.
+    /// Whether another shard has the changes of the execution's symbol at its time, and so judges the execution.
     pub other: bool,
     /// The exchange on which it was executed; `None` off an exchange.
     pub part: Option<Part>,

@@ -32,7 +32,7 @@ pub struct Refusal {
 pub struct Records {
     /// The executions, in the order of their records.
     pub executions: Vec<Execution>,
-    /// The records that are refused, in the same order.
+    /// The records that are refused, in the order of the file.
     pub refused: Vec<Refusal>,
 }
 
@@ -49,8 +49,8 @@ impl Records {
     }
 }
 
-/// Reads all executions of a file, at most `MOST_EXECUTIONS`. The reading goes on after a refused one. The clock finds their
-/// versions.
+/// Reads all executions of a file, at most `MOST_EXECUTIONS`. The reading goes on after a refused record. The clock finds the
+/// versions of the executions.
 pub(crate) fn read_executions<R: Read + Drop>(
     alloc: Global,
     roster: &Roster,
@@ -73,7 +73,7 @@ pub(crate) fn read_executions<R: Read + Drop>(
     Ok(records)
 }
 
-/// Takes the remaining records.
+/// Reads all records of a file, and adds each to the executions or to the refused records.
 fn take_records<R: Read>(
     reader: &mut Reader<R>,
     row: &mut ByteRecord,
@@ -105,7 +105,7 @@ fn take_records<R: Read>(
     }
 }
 
-/// Takes the record with a number.
+/// Adds one record, with its number, to the executions or to the refused records.
 fn take_record(
     row: &ByteRecord,
     roster: &Roster,

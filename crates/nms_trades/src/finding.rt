@@ -41,7 +41,7 @@ impl Finding {
         self.passed.is_empty()
     }
 
-    /// Whether the quotation at a place among them flickered.
+    /// Whether a quotation that was traded through flickered. It is given by its place in the list of these quotations.
     pub fn is_flickering(&self, place: usize) -> bool
         ensures { result ≡ flickers_at self.now place }
     {

@@ -118,7 +118,7 @@ fn set_one(
     Ok(())
 }
 
-/// Whether each of these quotations flickered.
+/// For each quotation that an execution traded through, whether it flickered.
 fn flickers_of(
     alloc: Global,
     tape: &Tape<'_>,
@@ -153,7 +153,7 @@ fn is_flickering(
     ensures { result ≡ flickers (sizes_in tape.now) tape.now.changes.items execution.now.sym execution.now.millionths execution.now.second_before
         execution.now.version side row.now.part }
 {
-    // The parameter is there because only the clauses speak of the tape.
+    // The function takes the tape only because its contract mentions it.
     let _ = tape;
     any_version(
         &tracks[place_of(row.part, execution.sym)].marks,

@@ -44,7 +44,8 @@ pub(crate) fn judge(
     Ok(Finding { standing, ..found })
 }
 
-/// Judges a price in 1/1,000,000 dollar on a view. It takes memory only if a quotation is traded through.
+/// Finds the quotations of a symbol that a price in 1/1,000,000 dollar trades through. It takes memory only if there is such a
+/// quotation.
 fn find_on(alloc: Global, view: &View, millionths: u64) -> Result<Finding, AllocError>
     requires { millionths ≤ 9999999999999 }
     ensures found { IfOk result (IsFoundOn view.now millionths) }
@@ -67,7 +68,7 @@ fn find_on(alloc: Global, view: &View, millionths: u64) -> Result<Finding, Alloc
     })
 }
 
-/// The best quotations of a view.
+/// The best bid and the best offer in a view of one symbol's quotations.
 fn best_in(view: &View) -> Best
     ensures { result ≡ best_in view.now }
 {
@@ -120,8 +121,8 @@ pub fn judge_all(
     }
 }
 
-/// Judges executions as `judge_all` does. But it does not yet find which quotations flickered, which symbols were quoted, and
-/// which executions another shard judges.
+/// Judges executions on their own versions and on those of their windows. It does not yet find which quotations flickered,
+/// which symbols were quoted, and which executions another shard judges.
 fn judge_standings(
     alloc: Global,
     tape: &Tape<'_>,
@@ -145,7 +146,7 @@ fn judge_standings(
     }
 }
 
-/// A list of `count` executions that have no finding yet.
+/// A list with an empty place for each execution, because no finding has been made yet.
 fn no_answers(alloc: Global, count: usize) -> Result<Vec<Option<Finding>>, AllocError>
     ensures { IfOk result (λ answers. length answers.items ≡ count) }
 {
@@ -156,7 +157,7 @@ fn no_answers(alloc: Global, count: usize) -> Result<Vec<Option<Finding>>, Alloc
     Ok(answers)
 }
 
-/// Judges executions in these turns, and puts each finding at the place of its execution.
+/// Judges executions in the given order, and puts each finding at the place of its execution.
 fn judge_turns(
     alloc: Global,
     replay: &mut Replay<'_>,

@@ -11,7 +11,8 @@ use nms_board::{MOST_ROWS, Row, View};
 use nms_quote::Side;
 use nms_units::Price;
 
-/// The price in 1/10,000 dollar that decides for a side: the next one below for bids, the next one above for offers.
+/// A price rounded to 1/10,000 dollar, so that it can be compared with quotations. It is rounded down for bids and up for
+/// offers.
 pub(crate) fn whole_price(side: Side, millionths: u64) -> u64
     requires { millionths ≤ 9999999999999 }
     ensures { result ≡ whole_price side millionths }

@@ -53,7 +53,8 @@ pub(crate) fn append_other(out: &mut Vec<u8>, execution: &Execution) -> Result<(
     end_record(out)
 }
 
-/// Appends that an execution traded through, perhaps only on some versions of its window, and the remaining rows of its version.
+/// Appends that an execution traded through, perhaps only on some versions of its window. The rows that it traded through on
+/// its own version follow, except those that self-help takes out.
 pub(crate) fn append_through(
     out: &mut Vec<u8>,
     roster: &Roster,
@@ -67,7 +68,7 @@ pub(crate) fn append_through(
     append_rows(out, roster, execution, finding)
 }
 
-/// Appends that an execution traded through, without the rows.
+/// Appends the first line of an execution that traded through, without the rows that it traded through.
 fn append_found(
     out: &mut Vec<u8>,
     execution: &Execution,
@@ -83,7 +84,8 @@ fn append_found(
     end_record(out)
 }
 
-/// Appends how many rows remain, the greatest difference and the shares.
+/// Appends the number of rows that self-help leaves, the greatest difference from the execution's price, and the shares traded
+/// through.
 fn append_sums(out: &mut Vec<u8>, sums: &Sums) -> Result<(), AllocError>
     ensures { OnOk result (out.new.items ≡ out.old.items
         ++ (44 ∷ decimal sums.now.count ++ (44 ∷ fine_text sums.now.worst ++ 44 ∷ decimal sums.now.shares))) }
@@ -131,7 +133,7 @@ pub(crate) fn append_causes(
     Ok(())
 }
 
-/// The cause at a place.
+/// The cause at this place in the order of all causes, counted from 0.
 fn cause_at(place: usize) -> Cause
     requires { place < 13 }
     ensures { result ≡ get_or all_causes place result }
@@ -139,7 +141,8 @@ fn cause_at(place: usize) -> Cause
     Cause::ALL[place]
 }
 
-/// Appends a cause if it applies, after a plus if there is one before it. Returns whether any cause is there now.
+/// Appends a cause if it applies, after a plus if another cause precedes it. Returns whether any cause has been appended so
+/// far.
 fn append_cause(
     out: &mut Vec<u8>,
     some: bool,
@@ -217,7 +220,8 @@ fn append_row(
     end_record(out)
 }
 
-/// Appends the first fields of a row: what is quoted there.
+/// Appends the first fields of a row: the side, the participant, the price, the displayed shares and the receipt of the
+/// quotation.
 fn append_quotation(
     out: &mut Vec<u8>,
     roster: &Roster,
@@ -234,7 +238,7 @@ fn append_quotation(
     push_number(out, row.receipt)
 }
 
-/// The word for a standing.
+/// The word that names an execution's standing, such as `THROUGH`.
 pub(crate) fn word_of_standing(standing: Standing) -> &'static str
     ensures { result.now ≡ standing_word standing }
 {

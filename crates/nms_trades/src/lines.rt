@@ -26,9 +26,10 @@ use std::alloc::{AllocError, Global};
 use std::io::Write;
 
 /// Writes an answer to each record, in the order of their numbers: what was found about an execution, or that the record is
-/// refused. The findings are at the places of the executions. An execution without a finding has no answer.
+/// refused. The finding about an execution has the same place in its list as the execution. An execution without a finding has
+/// no answer.
 ///
-/// If it fails, which is `Show`, a prefix of that was written. Nothing is flushed.
+/// The only fault is `Show`. After it only a prefix of the answers was written. The writer is not flushed.
 pub fn write_answers<W: Write>(
     alloc: Global,
     roster: &Roster,
@@ -81,7 +82,7 @@ fn write_names<W: Write>(alloc: Global, answers: &mut W) -> Result<(), ShowFault
     }
 }
 
-/// Writes the answers in a shape.
+/// Writes the answers to all records as lines, as columns or as JSON objects.
 fn write_all<W: Write>(
     alloc: Global,
     roster: &Roster,
@@ -103,7 +104,8 @@ fn write_all<W: Write>(
     }
 }
 
-/// Writes the answers, with room for the text of one.
+/// Writes the answers to all records, in the order of their numbers. The buffer for the text of one answer is used again for
+/// each.
 fn write_each<W: Write>(
     alloc: Global,
     roster: &Roster,
@@ -131,8 +133,8 @@ fn write_each<W: Write>(
     Ok(())
 }
 
-/// Writes the refused records, from a place on, that come before the record with a number. If there is no such number, it
-/// writes all that are left. Returns the place of the next one.
+/// Writes the refused records, from a place on, whose numbers are below the given number. Without a number, it writes all that
+/// are left. Returns the place of the first refused record that was not written.
 fn write_refused<W: Write>(
     alloc: Global,
     records: &Records,
@@ -158,7 +160,7 @@ fn write_refused<W: Write>(
     Ok(records.refused.len())
 }
 
-/// Whether a refused record comes before the record with a number; it does if there is none.
+/// Whether a refused record comes before the record with this number. It does if no number is given.
 fn stands_before(refusal: &Refusal, number: Option<u64>) -> bool
     ensures { result ≡ is_before number refusal.now }
 {
@@ -310,7 +312,7 @@ fn append_finding(
     }
 }
 
-/// Gives a writer a text.
+/// Writes a text to the output.
 fn give<W: Write>(answers: &mut W, text: &[u8]) -> Result<(), ShowFault>
     ensures written { OnOk result (Appends (W.contents answers.old) (W.contents answers.new) text.now) }
     ensures cut { OnErr result (AppendsPart (W.contents answers.old) (W.contents answers.new) text.now) }

@@ -23,7 +23,8 @@ pub fn millionths_in(text: &[u8]) -> Option<u64>
     }
 }
 
-/// The same for a price that may be zero.
+/// The price that a text writes, in 1/1,000,000 dollar. It may be zero. The text has 1 to 7 digits, and at most a point with 1
+/// to 6 digits.
 fn number_in(text: &[u8]) -> Option<u64>
     ensures number { result ≡ fine_number text.now }
     ensures high { IfSome result (λ n. n ≤ MOST_MILLIONTHS) }
@@ -38,7 +39,7 @@ fn number_in(text: &[u8]) -> Option<u64>
     }
 }
 
-/// The place of the first point.
+/// The place of the first decimal point in a text, counted from 0.
 fn point_in(text: &[u8]) -> Option<usize>
     ensures place { result ≡ point_in text.now }
     ensures within { IfSome result (λ point. point < length text.now) }
@@ -80,7 +81,7 @@ pub fn push_millionths(out: &mut Vec<u8>, number: u64) -> Result<(), AllocError>
     ])
 }
 
-/// The digit of a number at the place of a unit, as a byte.
+/// The decimal digit of a number for a unit, as an ASCII byte. The unit is a power of ten.
 fn digit(number: u64, unit: u64) -> u8
     requires { 0 < unit }
     ensures { result ≡ digit_at unit number }

@@ -11,22 +11,22 @@ use nms_quote::Side;
 /// How much an execution traded through, without the rows that self-help takes out.
 #[derive(Clone, Copy)]
 pub struct Sums {
-    /// How many rows remain.
+    /// The number of rows that self-help does not take out.
     pub count: u64,
-    /// The greatest difference from the price, in 1/1,000,000 dollar.
+    /// The greatest difference between the price of a row and the price of the execution, in 1/1,000,000 dollar.
     pub worst: u64,
     /// The shares that the rows would have taken, at most those that were executed.
     pub shares: u32,
-    /// The sum of their differences times those shares, in 1/1,000,000 dollar.
+    /// The sum, over the rows, of the price difference times the shares taken from the row, in 1/1,000,000 dollar.
     pub dollars: i128,
     /// Whether self-help takes any row out.
     pub helped: bool,
-    /// How many of the remaining rows flickered.
+    /// The number of rows that flickered, without those that self-help takes out.
     pub flickers: u64,
 }
 
 impl Sums {
-    /// Whether any rows remain, and all of them flickered.
+    /// Whether self-help leaves any rows, and all of these flickered.
     pub fn is_flickering(&self) -> bool
         ensures { result ≡ all_flicker self.now }
     {
@@ -99,7 +99,8 @@ pub fn sums_of(execution: &Execution, finding: &Finding) -> Sums
     sums
 }
 
-/// How much an execution traded through one row, from which at most n shares are taken. Self-help may take the row out.
+/// How much an execution traded through one row, from which at most the remaining shares are taken. Self-help may take the row
+/// out.
 pub(crate) fn sums_of_row(execution: &Execution, row: &Row, left: u32, flickers: bool) -> Sums
     ensures sums { result ≡ sums_in execution.now left ((row.now, flickers) ∷ []) }
     ensures cost { IsCost result }
@@ -123,7 +124,7 @@ pub(crate) fn sums_of_row(execution: &Execution, row: &Row, left: u32, flickers:
     }
 }
 
-/// A difference times shares.
+/// The amount of a price difference in 1/1,000,000 dollar for a number of shares, in 1/1,000,000 dollar.
 fn cost_of(by: u64, shares: u32) -> i128
     ensures cost { result ≡ pos (by * shares) }
     ensures low { pos 0 ≤ℤ result }

@@ -60,7 +60,7 @@ pub(crate) fn write_quiet<W: Write>(
     write_own(alloc, answers, roster, execution, finding, price, time)
 }
 
-/// Writes the fields of an execution that traded through nothing, with these texts.
+/// Writes the object of an execution that traded through nothing, with these texts for its price and its time.
 fn write_own<'a, W: Write>(
     alloc: Global,
     answers: &mut W,
@@ -173,7 +173,7 @@ fn best_items(best: &Option<Row>) -> (Item<'static>, Item<'static>)
     }
 }
 
-/// Writes that an execution traded through, and the remaining rows.
+/// Writes that an execution traded through, and then each row that self-help does not take out.
 pub(crate) fn write_through<W: Write>(
     alloc: Global,
     answers: &mut W,
@@ -202,7 +202,7 @@ pub(crate) fn write_through<W: Write>(
     write_rows(alloc, answers, text, roster, execution, finding)
 }
 
-/// Writes the remaining rows.
+/// Writes each row that an execution traded through, except those that self-help takes out.
 fn write_rows<W: Write>(
     alloc: Global,
     answers: &mut W,
@@ -223,7 +223,7 @@ fn write_rows<W: Write>(
     Ok(())
 }
 
-/// The name of a standing.
+/// The word that names an execution's standing, such as `through`.
 fn what_of(standing: Standing) -> &'static str
     ensures { is_plain result.now ≡ true }
 {
@@ -245,7 +245,7 @@ struct Texts<'a> {
     causes: &'a [u8],
 }
 
-/// The places at which the later ones of these texts begin.
+/// The places in a text at which the price, the digits of the time and the causes of an execution begin.
 #[derive(Clone, Copy)]
 struct Cuts {
     price: usize,
@@ -253,7 +253,7 @@ struct Cuts {
     causes: usize,
 }
 
-/// Writes that an execution traded through, with these texts.
+/// Writes the object of an execution that traded through. Its greatest difference, price, time and causes are given as texts.
 fn write_head<'a, W: Write>(
     alloc: Global,
     answers: &mut W,
@@ -349,7 +349,7 @@ fn write_passed<W: Write>(
     )
 }
 
-/// Writes a row at this difference from the price.
+/// Writes the object of a row that was traded through. Its difference from the execution's price is given as a text.
 fn write_row<'a, W: Write>(
     alloc: Global,
     answers: &mut W,

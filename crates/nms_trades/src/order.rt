@@ -12,7 +12,7 @@ pub(crate) struct Turn {
     pub(crate) place: usize,
 }
 
-/// The turns of executions, by version, and within a version as they were given. Each execution has one.
+/// The order in which executions are judged: by version, and within a version as they were given. Each execution occurs once.
 pub(crate) fn turns_of(alloc: Global, executions: &[Execution]) -> Result<Vec<Turn>, AllocError>
     ensures { IfOk result (λ turns. HaveTurns turns.items (length executions.now)) }
 {

@@ -13,8 +13,8 @@ use nms_quote::{Change, Part, Side, Sym};
 use nms_stream::{Replay, Tape};
 use std::alloc::{AllocError, Global};
 
-/// The protected prices of each participant in each symbol, `MOST_ROWS` places a symbol, in each version of the changes. One
-/// board passes through them once.
+/// The protected prices of each participant in each symbol, in each version of the changes. The list has `MOST_ROWS` places for
+/// each symbol. One board passes through the changes once.
 pub(crate) fn parts_of(alloc: Global, tape: &Tape<'_>) -> Result<Vec<Track>, BoardFault>
     ensures { IfOk result (λ tracks. ArePartsOf (sizes_in tape.now) tape.now.changes.items tracks.items) }
 {
@@ -105,7 +105,7 @@ fn note_part(
     note_at(tracks, place_of(part, sym), board.applied(), limits)
 }
 
-/// The place of a participant in a symbol.
+/// The place of a participant's prices in a symbol, in the list for all participants and symbols.
 pub(crate) fn place_of(part: Part, sym: Sym) -> usize
     ensures { result ≡ place_of part sym }
 {

@@ -29,7 +29,7 @@ pub enum Place {
 }
 
 impl Place {
-    /// The word for the place.
+    /// The word for the place of an execution's price, such as `improved`.
     pub fn word(self) -> &'static str
         ensures { result.now ≡ place_word self }
     {
@@ -50,7 +50,8 @@ impl Place {
 pub struct Quality {
     /// The offer less the bid.
     pub quoted: Money,
-    /// Twice what the price is worse than the midpoint. If the side is not known, twice its distance from the midpoint.
+    /// Twice the amount by which the price is worse than the midpoint. If the side is not known, it is twice the distance from
+    /// the midpoint.
     pub effective: Money,
     /// The place of the price.
     pub place: Place,
@@ -102,7 +103,8 @@ fn quoted_spread(bid: u64, offer: u64) -> Money
     Money::new((i128::from(offer) - i128::from(bid)) * 1000)
 }
 
-/// Twice what a price is worse than the midpoint. If the side is not known, twice its distance from the midpoint.
+/// Twice the amount by which a price is worse than the midpoint. If the side is not known, it is twice the distance from the
+/// midpoint.
 fn effective_spread(deal: Option<Deal>, bid: u64, offer: u64, price: u64) -> Money
     ensures { result ≡ effective_spread deal bid offer price }
 {
@@ -121,14 +123,14 @@ fn is_below(bid: u64, offer: u64, price: u64) -> bool
     2 * u128::from(price) < u128::from(bid) + u128::from(offer)
 }
 
-/// Twice what a price is above the midpoint.
+/// Twice the amount by which a price is above the midpoint.
 fn twice_above(bid: u64, offer: u64, price: u64) -> Money
     ensures { result ≡ twice_above bid offer price }
 {
     Money::new((2 * i128::from(price) - (i128::from(bid) + i128::from(offer))) * 1000)
 }
 
-/// Twice what a price is below the midpoint.
+/// Twice the amount by which a price is below the midpoint.
 fn twice_below(bid: u64, offer: u64, price: u64) -> Money
     ensures { result ≡ twice_below bid offer price }
 {
@@ -153,7 +155,7 @@ fn money_below(price: u64, other: u64) -> Money
     Money::new(i128::from(other.saturating_sub(price)) * 1000)
 }
 
-/// The place of a price.
+/// The place of an execution's price, next to the bid and the offer.
 fn place_of(deal: Option<Deal>, bid: u64, offer: u64, price: u64) -> Place
     ensures { result ≡ place_of deal bid offer price }
 {

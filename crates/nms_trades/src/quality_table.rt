@@ -21,12 +21,12 @@ use nms_units::Money;
 use std::alloc::{AllocError, Global};
 use std::io::Write;
 
-/// The least number of characters of each column.
+/// The least width of each column of a table of execution quality, in characters.
 const WIDTHS: [usize; COLUMNS] = [18, 10, 14, 9, 9, 9, 9, 16, 16, 20];
 
 /// Writes the counts and sums of the quality of all executions. What is written is safe to show on a terminal.
 ///
-/// `TooLong` comes only if no number holds a sum, and then nothing is written.
+/// The fault `TooLong` is returned only if a sum is too large for the number that holds it. Then nothing is written.
 #[tactic(auto, using(nms_show::proofs::Offered::no_part_added))]
 pub fn write_quality<W: Write>(
     alloc: Global,
@@ -52,7 +52,7 @@ pub fn write_quality<W: Write>(
     }
 }
 
-/// Writes the quality of a tally.
+/// Writes the quality of all executions, then the quality by participant, by symbol, by size and by half hour.
 #[tactic(auto, using(nms_show::proofs::Offered::no_part_added))]
 fn print_quality<W: Write>(
     alloc: Global,
@@ -105,7 +105,7 @@ fn write_totals(all: &Count, aside: Aside, out: &mut SafeText) -> Result<(), All
     ])
 }
 
-/// An average as money; nothing if no share was measured.
+/// The average of an amount over the measured shares, as money. Nothing is shown if no share was measured.
 fn average_of<'a>(worth: &Worth, amount: i128) -> Item<'a>
     ensures { own_text result ≡ [] }
 {
@@ -141,7 +141,7 @@ pub(crate) fn write_quality_head(name: &str, out: &mut SafeText) -> Result<(), A
     write_row(&items, &WIDTHS, out)
 }
 
-/// Writes the quality of a count, if there is an execution in it.
+/// Writes the execution quality of one participant, symbol, size or half hour, if it has any execution.
 pub(crate) fn write_worth<'a>(
     what: &'a str,
     name: Item<'a>,
@@ -160,7 +160,7 @@ pub(crate) fn write_worth<'a>(
     write_quality_row(name, count, out)
 }
 
-/// Writes the quality of a count as an object.
+/// Writes the execution quality of one participant, symbol, size or half hour as a JSON object.
 fn write_object<'a>(
     what: &'a str,
     name: Item<'a>,
@@ -186,7 +186,7 @@ fn write_object<'a>(
     ])
 }
 
-/// Writes the quality of a count as a row of a table.
+/// Writes the execution quality of some executions as a row of a table.
 fn write_quality_row(name: Item<'_>, count: &Count, out: &mut SafeText) -> Result<(), AllocError>
     requires { is_own_plain name ≡ true }
 {

@@ -12,7 +12,8 @@ use nms_quote::Change;
 use nms_stream::Tape;
 use std::alloc::{AllocError, Global};
 
-/// Sets the answer of each finding. The changes are read once.
+/// Corrects the standing in each finding if another shard judges the execution, or if its symbol had not been quoted yet. The
+/// changes are read once.
 pub(crate) fn answer_all(
     alloc: Global,
     tape: &Tape<'_>,
@@ -32,7 +33,7 @@ pub(crate) fn answer_all(
     Ok(())
 }
 
-/// Sets the answer of a finding.
+/// Corrects the standing in a finding if another shard judges the execution, or if its symbol had not been quoted yet.
 fn answer_one(tape: &Tape<'_>, firsts: &[u64], execution: &Execution, answer: &mut Option<Finding>)
     requires on { IsOn tape.now.roster.now (length tape.now.changes.items) execution.now }
     requires count { length firsts.now ≡ length tape.now.roster.now.syms }
@@ -40,7 +41,7 @@ fn answer_one(tape: &Tape<'_>, firsts: &[u64], execution: &Execution, answer: &m
     requires found { IsAnswered (IsWeighed (sizes_in tape.now) tape.now.changes.items) execution.now (Some answer.old) }
     ensures { IsAnswered (IsStanding (sizes_in tape.now) tape.now.changes.items) execution.now (Some answer.new) }
 {
-    // The parameter is there because only the clauses speak of the tape.
+    // The function takes the tape only because its contract mentions it.
     let _ = tape;
     let place = usize::from(execution.sym.get());
     let unquoted = execution.first <= firsts[place];

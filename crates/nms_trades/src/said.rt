@@ -1,6 +1,6 @@
 //! What the shards of a day say about a record of a file of executions: `specs/Day`.
-ghost use Rattle.std.specs.Prelude.{◌≡◌, false};
-ghost use Rattle.nms_trades.specs.Day.{both, is_here};
+ghost use Rattle.std.specs.Prelude.{◌≡◌, false, is_some};
+ghost use Rattle.nms_trades.specs.Day.{both, is_here, is_refused};
 
 use crate::trade_fault::TradeFault;
 use nms_times::TimeOfDay;
@@ -10,27 +10,27 @@ use nms_times::TimeOfDay;
 pub(crate) struct Line {
     /// The time of the execution.
     pub(crate) time: TimeOfDay,
-    /// The place of its first byte.
+    /// The place of the line's first byte in the text of the day.
     pub(crate) from: usize,
-    /// The place after its last byte.
+    /// The place after the line's last byte in the text of the day.
     pub(crate) to: usize,
 }
 
 /// What one shard says about a record, or several shards together.
 #[derive(Clone, Copy)]
 pub(crate) enum Said {
-    /// The record is in no symbol of a shard.
+    /// The symbol of the record is on the roster of no shard so far.
     Unknown,
     /// The record is refused.
     Refused(TradeFault),
-    /// Another shard judges it.
+    /// The shard leaves the record to another shard.
     Elsewhere,
-    /// It is judged, and this is its line.
+    /// The shard judged the record as an execution, and this is its line.
     Here(Line),
 }
 
 impl Said {
-    /// What is said together with another shard. `None` if both judge the record.
+    /// What two shards together say about a record; `None` if both judge it.
     pub(crate) fn with(self, more: Said) -> Option<Said>
         ensures { result ≡ both self more }
     {
@@ -66,7 +66,9 @@ impl Said {
     }
 
     /// Why the record is refused, if it is.
-    pub(crate) fn refusal(self) -> Option<TradeFault> {
+    pub(crate) fn refusal(self) -> Option<TradeFault>
+        ensures { is_some result ≡ is_refused self }
+    {
         match self {
             Said::Unknown => Some(TradeFault::UnknownSymbol),
             Said::Refused(fault) => Some(fault),

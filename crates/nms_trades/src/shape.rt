@@ -14,7 +14,7 @@ pub enum Shape {
 }
 
 impl Shape {
-    /// Whether the shape is a text of records.
+    /// Whether answers of this shape are text, and not JSON objects.
     pub(crate) fn is_text(self) -> bool
         ensures { result ≡ is_text self }
     {

@@ -9,7 +9,7 @@ use nms_show::{Item, ShowFault, write_object};
 use std::alloc::Global;
 use std::io::Write;
 
-/// Writes an object.
+/// Writes a JSON object with these members.
 pub(crate) fn show_object<W: Write>(
     alloc: Global,
     answers: &mut W,

@@ -7,15 +7,16 @@ ghost use Rattle.nms_trades.specs.Quoted.{answered_as};
 /// Whether an execution trades through a protected quotation on the versions of its window.
 #[derive(Clone, Copy, PartialEq, Eq)]
 pub enum Standing {
-    /// It trades through on none of them, and on each of them its symbol had been quoted.
+    /// The execution trades through on no version of its window, and its symbol had been quoted on each.
     Clean,
-    /// It trades through on none of them. On the first, no participant had quoted its symbol yet, so the answer is not known.
+    /// The execution trades through on no version of its window. On the first version no participant had quoted its symbol yet,
+    /// so the answer is not known.
     Unquoted,
-    /// It trades through on some of them, and not on others.
+    /// The execution trades through on some versions of its window, and not on others.
     Perhaps,
-    /// It trades through on all of them.
+    /// The execution trades through on every version of its window.
     Through,
-    /// It is not judged here, because another shard has the changes of its symbol at its time.
+    /// The execution is not judged here, because another shard has the changes of its symbol at its time.
     Other,
 }
 
@@ -31,7 +32,7 @@ impl Standing {
         }
     }
 
-    /// Whether it traded through, or perhaps did.
+    /// Whether the execution traded through, or perhaps did.
     pub(crate) fn passes_some(self) -> bool
         ensures { result ≡ passes_some self }
     {
@@ -41,15 +42,15 @@ impl Standing {
         }
     }
 
-    /// Whether another shard judges it.
+    /// Whether another shard judges the execution.
     pub(crate) fn is_other(self) -> bool
         ensures { result ≡ is_other self }
     {
         self == Standing::Other
     }
 
-    /// The answer. If another shard judges the execution, that comes first. A clean execution may be in a symbol without a
-    /// quotation.
+    /// The corrected standing of an execution. It is `Other` if another shard judges the execution. Else a clean execution
+    /// whose symbol had not been quoted becomes `Unquoted`.
     pub(crate) fn answered(self, other: bool, unquoted: bool) -> Standing
         ensures { result ≡ answered_as other unquoted self }
     {

@@ -66,7 +66,7 @@ fn is_past(before: bool, cut: TimeOfDay, time: TimeOfDay) -> bool
 /// Reads the cuts of a symbol in the text of symbols into its stretch. A shard that is cut has one more line for each of its
 /// cuts. In it ` from ` or ` until ` and the time of the cut follow the symbol's name. The last of several lines counts.
 ///
-/// `NotSymbol` has the first such line that has no time there.
+/// The fault `NotSymbol` names the first such line that has no time there.
 pub(crate) fn read_stretch(
     stretch: &mut Stretch,
     text: &[u8],

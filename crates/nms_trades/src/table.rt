@@ -21,10 +21,10 @@ use nms_units::Money;
 use std::alloc::{AllocError, Global};
 use std::io::Write;
 
-/// How many columns a table has.
+/// The number of columns of each table of counts.
 pub(crate) const COLUMNS: usize = 10;
 
-/// The least number of characters of each column.
+/// The least width of each column of a table of trade-throughs, in characters.
 const WIDTHS: [usize; COLUMNS] = [18, 10, 8, 8, 8, 8, 8, 12, 20, 16];
 
 /// The most symbols of a table, which shows those with the most shares.
@@ -32,7 +32,7 @@ const MOST_SYMBOLS_SHOWN: usize = 50;
 
 /// Writes the counts and sums of all executions. What is written is safe to show on a terminal.
 ///
-/// `TooLong` comes only if no number holds a sum, and then nothing is written.
+/// The fault `TooLong` is returned only if a sum is too large for the number that holds it. Then nothing is written.
 #[tactic(auto, using(nms_show::proofs::Offered::no_part_added))]
 pub fn write_table<W: Write>(
     alloc: Global,
@@ -55,7 +55,7 @@ pub fn write_table<W: Write>(
     }
 }
 
-/// Writes a tally.
+/// Writes the counts and sums of all executions to the output, as tables or as JSON objects.
 #[tactic(auto, using(nms_show::proofs::Offered::no_part_added))]
 pub(crate) fn print_tally<W: Write>(
     alloc: Global,
@@ -83,13 +83,14 @@ pub(crate) enum About {
 /// The records that are not among the executions judged.
 #[derive(Clone, Copy)]
 pub(crate) struct Aside {
-    /// How many are refused.
+    /// The number of records that are refused.
     pub(crate) refused: u64,
-    /// How many other shards judge.
+    /// The number of records that other shards judge.
     pub(crate) others: u64,
 }
 
-/// The counts of executions, each with what was found about it. The counts of all are the lengths of the lists.
+/// The counts and sums of these executions, from what was found about each. Each count of all executions is the number of
+/// findings of its kind.
 pub(crate) fn tally_of(
     alloc: Global,
     roster: &Roster,
@@ -117,7 +118,7 @@ pub(crate) fn tally_of(
     Ok(tally)
 }
 
-/// Counts an execution, if there is a finding about it. `None` comes only if no number holds a sum.
+/// Counts an execution, if there is a finding about it. Returns `None` only if a sum is too large for the number that holds it.
 fn count_one(tally: &mut Tally, execution: &Execution, answer: &Option<Finding>) -> Option<()>
     ensures others { OnSome result (tally.new.others ≡ tally.old.others + (if stands is_other answer.now then 1 else 0)) }
     ensures executions { OnSome result (tally.new.all.executions
@@ -135,7 +136,7 @@ fn count_one(tally: &mut Tally, execution: &Execution, answer: &Option<Finding>)
     }
 }
 
-/// Writes a tally.
+/// Writes the counts of all executions, then the counts by cause, by participant, by symbol and by half hour.
 fn write_tally(tally: &Tally, refused: u64, out: &mut SafeText) -> Result<(), AllocError> {
     let aside = Aside {
         refused,
@@ -156,7 +157,7 @@ fn write_places(names: &Names, places: &Places, out: &mut SafeText) -> Result<()
     write_half_hours(About::Through, &places.half_hours, out)
 }
 
-/// Writes the counts of causes.
+/// Writes, for each cause, the counts of the executions to which it applies.
 fn write_causes(tally: &Tally, out: &mut SafeText) -> Result<(), AllocError> {
     write_head(About::Through, "cause", out)?;
     for place in 0..CAUSES {
@@ -220,7 +221,8 @@ fn write_totals(all: &Count, aside: Aside, out: &mut SafeText) -> Result<(), All
     ])
 }
 
-/// Writes, after a word, how many executions an amount has, and how much they traded through.
+/// Writes one line about the executions that traded through, or about those that perhaps did. It gives their rate, the number
+/// without a cause, the shares and the dollars.
 fn write_amount(
     word: &str,
     amount: &Amount,
@@ -245,14 +247,15 @@ fn write_amount(
     ])
 }
 
-/// How many executions are clean, because they are none of the others.
+/// The number of clean executions, which are those that neither traded through nor perhaps did, and whose symbol had been
+/// quoted.
 fn clean_of(all: &Count) -> u64 {
     let rest = all.executions - all.through.executions.min(all.executions);
     let rest = rest - all.perhaps.executions.min(rest);
     rest - all.unquoted.min(rest)
 }
 
-/// How many of 10,000 executions an amount has, rounded down.
+/// The number of executions that traded through, or perhaps did, for each 10,000 executions. It is rounded down.
 fn rate_of(amount: &Amount, executions: u64) -> Item<'static>
     ensures { own_text result ≡ [] }
 {
@@ -272,7 +275,7 @@ fn money_of<'a>(millionths: i128) -> Item<'a>
     }
 }
 
-/// Writes the head of a table. Objects have no head.
+/// Writes an empty line and the names of a table's columns. Nothing is written for JSON objects, which have no head.
 pub(crate) fn write_head(about: About, name: &str, out: &mut SafeText) -> Result<(), AllocError>
     requires { is_plain name.now ≡ true }
 {
@@ -305,7 +308,7 @@ fn write_through_head(name: &str, out: &mut SafeText) -> Result<(), AllocError>
     write_row(&items, &WIDTHS, out)
 }
 
-/// Writes a count, if it is not empty.
+/// Writes the counts of one participant, symbol, cause or half hour, unless there is nothing to count.
 pub(crate) fn write_count<'a>(
     about: About,
     what: &'a str,
@@ -322,7 +325,7 @@ pub(crate) fn write_count<'a>(
     }
 }
 
-/// Writes what the executions of a count traded through, if it is not empty.
+/// Writes the trade-through counts of one participant, symbol, cause or half hour, unless there is nothing to count.
 fn write_through<'a>(
     what: &'a str,
     name: Item<'a>,
@@ -342,7 +345,7 @@ fn write_through<'a>(
     write_perhaps_row(&count.perhaps, out)
 }
 
-/// Writes a count as an object.
+/// Writes the trade-through counts of one participant, symbol, cause or half hour as a JSON object.
 fn write_count_object<'a>(
     what: &'a str,
     name: Item<'a>,
@@ -372,7 +375,7 @@ fn write_count_object<'a>(
     ])
 }
 
-/// Writes a count as a row of a table.
+/// Writes the trade-through counts of one participant, symbol, cause or half hour as a row of a table.
 fn write_count_row(name: Item<'_>, count: &Count, out: &mut SafeText) -> Result<(), AllocError>
     requires { is_own_plain name ≡ true }
 {
@@ -411,7 +414,7 @@ fn write_perhaps_row(amount: &Amount, out: &mut SafeText) -> Result<(), AllocErr
     write_row(&items, &WIDTHS, out)
 }
 
-/// Writes a row of a table, in columns of these widths. Its name is at the left end of one, and each other item at the right end.
+/// Writes a row of a table, in columns of these widths. The first item is aligned left, and every other item is aligned right.
 pub(crate) fn write_row(
     items: &[Item<'_>; COLUMNS],
     widths: &[usize; COLUMNS],
@@ -434,7 +437,7 @@ pub(crate) fn write_row(
     out.row(&columns)
 }
 
-/// Writes the counts of participants. The one after the last is for executions off an exchange.
+/// Writes the counts of each participant, and after them the count of executions off an exchange.
 pub(crate) fn write_parts(
     about: About,
     names: &Names,
@@ -451,7 +454,8 @@ pub(crate) fn write_parts(
     Ok(())
 }
 
-/// The name of the participant at a place; `(none)` for the place after the last.
+/// The name of the participant at this place. The place after the last participant has the name `(none)`, for executions off an
+/// exchange.
 fn part_item(names: &Names, place: usize) -> Item<'_>
     ensures { is_own_plain result ≡ true }
 {
@@ -461,7 +465,8 @@ fn part_item(names: &Names, place: usize) -> Item<'_>
     }
 }
 
-/// Writes the counts of symbols. A table has the 50 with the most shares, and objects are written for all.
+/// Writes the counts of symbols. A table shows the 50 symbols with the most shares, but JSON objects are written for all
+/// symbols.
 pub(crate) fn write_symbols(
     about: About,
     names: &Names,
@@ -481,7 +486,7 @@ pub(crate) fn write_symbols(
     write_shown(about, names, counts, &order[..shown.min(order.len())], out)
 }
 
-/// Writes the counts of symbols, in an order of their places.
+/// Writes the counts of the symbols at the listed places, in the order of the list.
 fn write_shown(
     about: About,
     names: &Names,
@@ -521,15 +526,15 @@ pub(crate) fn write_half_hours(
     Ok(())
 }
 
-/// The beginning of a half hour, as `09:30`.
+/// The time at which a half hour of the day begins, in the form `09:30`.
 fn name_of_half_hour(place: u8) -> [u8; 5] {
     let hour = place / 2;
     let half = if place % 2 == 0 { b'0' } else { b'3' };
     [b'0' + hour / 10, b'0' + hour % 10, b':', half, b'0']
 }
 
-/// The places of counts, those with the most shares through first. If these are equal, those with the most shares perhaps
-/// through come first.
+/// The places of the symbols, ordered by the shares traded through, most first. Symbols for which these are equal are ordered
+/// by the shares that were perhaps traded through.
 fn by_shares(alloc: Global, counts: &[Count]) -> Result<Vec<usize>, AllocError> {
     let mut order = places_of(alloc, counts)?;
     order.sort_by_key(|place| u64::MAX
@@ -539,14 +544,14 @@ fn by_shares(alloc: Global, counts: &[Count]) -> Result<Vec<usize>, AllocError> 
     Ok(order)
 }
 
-/// The places of counts, those with the most shares executed first.
+/// The places of the symbols, ordered by the shares executed, most first.
 fn by_size(alloc: Global, counts: &[Count]) -> Result<Vec<usize>, AllocError> {
     let mut order = places_of(alloc, counts)?;
     order.sort_by_key(|place| u64::MAX - counts.get(*place).map_or(0, |count| count.worth.shares))?;
     Ok(order)
 }
 
-/// The places of counts, in order.
+/// The places of all symbols, from first to last.
 fn places_of(alloc: Global, counts: &[Count]) -> Result<Vec<usize>, AllocError> {
     let mut order = Vec::with_capacity(alloc, counts.len())?;
     for place in 0..counts.len() {

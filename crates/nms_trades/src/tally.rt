@@ -1,6 +1,6 @@
 //! How many executions traded through, how much, and how well they were done. The counts are of all, by cause, by participant,
 //! by symbol, by size and by half hour.
-ghost use Rattle.std.specs.Prelude.{◌≡◌, ◌<◌, ◌+◌, IfOk, IfSome, OnOk, OnSome};
+ghost use Rattle.std.specs.Prelude.{◌≡◌, ◌<◌, ◌+◌, IfOk, IfSome, OnOk, OnSome, length};
 ghost use Rattle.nms_trades.specs.Counts.{is_judged, is_noquote, is_other, is_perhaps, is_through, stands_once};
 
 use crate::cause::{CAUSES, Cause};
@@ -27,7 +27,7 @@ const HALF_HOUR: u64 = 1_800_000_000_000;
 pub(crate) struct Amount {
     /// The number of executions.
     pub(crate) executions: u64,
-    /// How many of them have rows left, and no cause but self-help applies to them.
+    /// The number of executions with rows that no cause explains. Self-help may have taken out other rows of them.
     pub(crate) open: u64,
     /// The number of rows that were traded through.
     pub(crate) rows: u64,
@@ -35,7 +35,7 @@ pub(crate) struct Amount {
     pub(crate) shares: u64,
     /// The dollars that were traded through, in 1/1,000,000.
     pub(crate) dollars: i128,
-    /// The greatest difference, in 1/1,000,000 dollar.
+    /// The greatest difference between the price of an execution and the price of a row, in 1/1,000,000 dollar.
     pub(crate) worst: u64,
 }
 
@@ -66,7 +66,7 @@ impl Amount {
         amount.with_sums(sums)
     }
 
-    /// The amount with more rows.
+    /// The amount with more rows, but with the same number of executions.
     fn with_sums(self, sums: &Sums) -> Option<Amount>
         ensures { IfSome result (λ amount. amount.executions ≡ self.executions) }
     {
@@ -96,7 +96,7 @@ impl Amount {
 /// What one execution adds to a count.
 #[derive(Clone, Copy)]
 struct One {
-    /// Whether the execution has rows left, and no cause but self-help applies.
+    /// Whether the execution has rows that no cause explains. Self-help may have taken out other rows of it.
     is_open: bool,
     /// How much the execution traded through.
     sums: Sums,
@@ -109,11 +109,11 @@ struct One {
 pub(crate) struct Count {
     /// The number of executions.
     pub(crate) executions: u64,
-    /// The number of those whose symbol had not been quoted.
+    /// The number of executions whose symbol had not been quoted.
     pub(crate) unquoted: u64,
-    /// The amount of those that traded through on some versions of their windows, and not on others.
+    /// The amount of the executions that traded through on some versions of their windows, and not on others.
     pub(crate) perhaps: Amount,
-    /// The amount of those that traded through.
+    /// The amount of the executions that traded through on every version of their windows.
     pub(crate) through: Amount,
     /// How well all of the executions were done.
     pub(crate) worth: Worth,
@@ -136,7 +136,7 @@ impl Count {
         }
     }
 
-    /// Whether the count is empty.
+    /// Whether the count has neither an execution nor a row that was traded through.
     pub(crate) fn is_empty(&self) -> bool {
         self.executions == 0 && self.through.rows == 0 && self.perhaps.rows == 0
     }
@@ -178,7 +178,7 @@ impl Count {
         })
     }
 
-    /// The count with rows of an execution with this standing.
+    /// The count with more rows that an execution traded through, or perhaps did. The number of executions stays the same.
     fn with_rows(self, standing: Standing, sums: &Sums) -> Option<Count> {
         let mut count = self;
         match standing {
@@ -193,7 +193,7 @@ impl Count {
 /// The counts of all executions.
 #[derive(Drop)]
 pub(crate) struct Tally {
-    /// The number of those that other shards judge. They are in no other count.
+    /// The number of executions that other shards judge. No other count includes them.
     pub(crate) others: u64,
     pub(crate) all: Count,
     pub(crate) names: Names,
@@ -209,7 +209,7 @@ pub(crate) struct Names {
     pub(crate) syms: Vec<String>,
 }
 
-/// The same counts by what executions have in common.
+/// The counts of executions by cause, participant, symbol, size and half hour.
 #[derive(Drop)]
 pub(crate) struct Places {
     /// The counts by cause, in the order of `Cause::ALL`.
@@ -220,7 +220,7 @@ pub(crate) struct Places {
     pub(crate) passed: Vec<Count>,
     /// The counts by symbol.
     pub(crate) syms: Vec<Count>,
-    /// The counts by the class of the shares.
+    /// The counts by size class, which is a range of the shares of an execution.
     pub(crate) sizes: [Count; SIZES],
     /// The counts by half hour of the day, for executions with a time.
     pub(crate) half_hours: [Count; HALF_HOURS],
@@ -243,12 +243,13 @@ impl Tally {
         })
     }
 
-    /// Empty counts, to which those of rosters are added that have the same participants.
+    /// Empty counts, to which the counts of several shards with the same participants can be added.
     pub(crate) fn empty(alloc: Global) -> Tally
         ensures executions { result.all.executions ≡ 0 }
         ensures unquoted { result.all.unquoted ≡ 0 }
         ensures perhaps { result.all.perhaps.executions ≡ 0 }
         ensures through { result.all.through.executions ≡ 0 }
+        ensures names { length result.names.parts.items ≡ 0 }
     {
         Tally {
             others: 0,
@@ -268,7 +269,8 @@ impl Tally {
         }
     }
 
-    /// Adds the counts of other executions, under the same participants. `TooLong` comes only if no number holds a sum.
+    /// Adds the counts of other executions, under the same participants. Returns `TooLong` only if a sum is too large for the
+    /// number that holds it.
     pub(crate) fn add_tally(&mut self, more: &Tally) -> Result<(), TradesFault>
         ensures executions { OnOk result (self.new.all.executions ≡ self.old.all.executions + more.now.all.executions) }
         ensures unquoted { OnOk result (self.new.all.unquoted ≡ self.old.all.unquoted + more.now.all.unquoted) }
@@ -287,7 +289,7 @@ impl Tally {
         }
     }
 
-    /// Counts one more execution. `None` comes only if no number holds a sum.
+    /// Counts one more execution. Returns `None` only if a sum is too large for the number that holds it.
     pub(crate) fn add(&mut self, execution: &Execution, finding: &Finding) -> Option<()>
         ensures others { OnSome result (self.new.others ≡ self.old.others + stands_once is_other finding.now) }
         ensures executions { OnSome result (self.new.all.executions ≡ self.old.all.executions + stands_once is_judged finding.now) }
@@ -346,7 +348,7 @@ impl Names {
         Ok(Names { parts, syms })
     }
 
-    /// Whether there is no participant yet, or these are the participants of others, in the same order.
+    /// Whether these names have no participant yet, or have the same participants as the other names, in the same order.
     pub(crate) fn has_parts(&self, others: &Names) -> bool {
         self.parts.is_empty()
             || self.parts.len() == others.parts.len()
@@ -354,8 +356,8 @@ impl Names {
                     == others.parts[place].as_str())
     }
 
-    /// Adds the names of symbols that are not there, and those of the participants if there are none. Returns the places of the
-    /// others' symbols.
+    /// Adds the symbols of the other names that are missing here, and all participants if there are none yet. Returns the place
+    /// here of each of the other symbols.
     fn add_names(&mut self, others: &Names) -> Result<Vec<usize>, AllocError> {
         let alloc = *self.syms.allocator();
         for place in self.parts.len()..others.parts.len() {
@@ -394,7 +396,7 @@ impl Places {
         })
     }
 
-    /// Adds the counts of other executions, whose symbols have these places here.
+    /// Adds the counts of other executions. The list gives the place here of each of their symbols.
     fn add_places(&mut self, more: &Places, syms: &[usize]) -> Result<(), TradesFault> {
         add_counts(&mut self.causes, &more.causes)?;
         add_counts(&mut self.sizes, &more.sizes)?;
@@ -411,7 +413,8 @@ impl Places {
         Ok(())
     }
 
-    /// Counts an execution for its participant, its symbol, its size, its causes, and those that it traded through.
+    /// Counts an execution for its participant, symbol, size, half hour and causes, and for the participants that it traded
+    /// through.
     fn add(&mut self, execution: &Execution, finding: &Finding, one: &One) -> Option<()> {
         let off = self.executed.len().checked_sub(1)?;
         let place = match execution.part {
@@ -449,7 +452,7 @@ impl Places {
         Some(())
     }
 
-    /// Counts the rows that an execution traded through, each for its participant.
+    /// Counts the rows that an execution traded through, each for the participant that quoted it.
     fn add_rows(&mut self, execution: &Execution, finding: &Finding) -> Option<()> {
         let mut left = execution.shares.get();
         for place in 0..finding.passed.len() {
@@ -464,7 +467,7 @@ impl Places {
     }
 }
 
-/// Counts an execution at a place, if there is that place.
+/// Counts an execution at this place of a list, if the list has such a place.
 fn add_to(counts: &mut [Count], place: usize, finding: &Finding, one: &One) -> Option<()> {
     if let Some(count) = counts.get_mut(place) {
         *count = count.with(finding, one)?;
@@ -472,7 +475,7 @@ fn add_to(counts: &mut [Count], place: usize, finding: &Finding, one: &One) -> O
     Some(())
 }
 
-/// Adds counts to those at the same places.
+/// Adds each count of the second list to the count at the same place of the first.
 fn add_counts(counts: &mut [Count], more: &[Count]) -> Result<(), TradesFault> {
     for place in 0..counts.len().min(more.len()) {
         match counts[place].plus(&more[place]) {
@@ -483,7 +486,7 @@ fn add_counts(counts: &mut [Count], more: &[Count]) -> Result<(), TradesFault> {
     Ok(())
 }
 
-/// Adds a count to the one at a place, which may be after the last.
+/// Adds a count to the count at this place of a list. A list that is too short is first filled up with empty counts.
 fn add_at(counts: &mut Vec<Count>, place: usize, more: &Count) -> Result<(), TradesFault> {
     for _ in counts.len()..=place {
         if counts.push(Count::none()).is_err() {
@@ -511,7 +514,7 @@ fn counts(alloc: Global, count: usize) -> Result<Vec<Count>, AllocError> {
     Ok(counts)
 }
 
-/// Whether a cause applies to all of an execution. Self-help never does, because it takes out rows.
+/// Whether a cause other than self-help applies to an execution. Self-help is left out, because it only takes out rows.
 fn has_cause(execution: &Execution, finding: &Finding, sums: &Sums) -> bool {
     let flickering = sums.is_flickering();
     Cause::ALL.iter().any(|cause| cause.applies(
@@ -522,7 +525,7 @@ fn has_cause(execution: &Execution, finding: &Finding, sums: &Sums) -> bool {
     ))
 }
 
-/// The place of a time's half hour of the day.
+/// The half hour of the day in which a time is, counted from 0.
 fn half_hour_of(time: TimeOfDay) -> usize
     ensures { result < HALF_HOURS }
 {

@@ -18,7 +18,7 @@ pub(crate) struct Limits {
 }
 
 impl Limits {
-    /// Whether the limits are the same as others.
+    /// Whether two pairs of limits have the same bid and the same offer.
     fn is_same(self, other: Limits) -> bool
         ensures { result ≡ true → self ≡ other }
     {
@@ -51,7 +51,7 @@ pub(crate) enum Test {
 }
 
 impl Test {
-    /// Whether the test holds for limits.
+    /// Whether the test holds for these limits, at a price in 1/1,000,000 dollar.
     pub(crate) fn holds_of(self, millionths: u64, limits: Limits) -> bool
         requires { millionths ≤ 9999999999999 }
         ensures { result ≡ holds_of self millionths limits }
@@ -99,7 +99,7 @@ fn offer_below(price: u64, offer: Option<u64>) -> bool
     }
 }
 
-/// Adds the limits of one more version to the track at a place. If they are new, that adds a mark.
+/// Adds the limits of one more version to the track at a place. A mark is added only if the limits differ from those before.
 pub(crate) fn note_at(
     tracks: &mut Vec<Track>,
     place: usize,
@@ -114,7 +114,7 @@ pub(crate) fn note_at(
     note(&mut tracks[place].marks, version, limits)
 }
 
-/// Adds the limits of one more version. If they are new, that adds a mark.
+/// Adds the limits of one more version. A mark is added only if the limits differ from those before.
 fn note(marks: &mut Vec<Mark>, version: u64, limits: Limits) -> Result<(), AllocError>
     ensures { OnOk result (IsMarked version limits marks.old.items marks.new.items) }
 {
@@ -126,7 +126,7 @@ fn note(marks: &mut Vec<Mark>, version: u64, limits: Limits) -> Result<(), Alloc
     Ok(())
 }
 
-/// Whether a test holds for the limits of any version from one to another.
+/// Whether a test holds for the limits of any version, from a first to a last one.
 pub(crate) fn any_version(
     marks: &[Mark],
     test: Test,

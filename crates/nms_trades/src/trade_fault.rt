@@ -55,7 +55,7 @@ impl TradeFault {
         }
     }
 
-    /// The column that the fault is about, counted from 1. For the number of fields it is the first.
+    /// The column that the fault is about, counted from 1. A wrong number of fields is reported at the first column.
     pub(crate) fn column(self) -> u64
         ensures { result ≡ column_of self }
     {

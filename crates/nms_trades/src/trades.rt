@@ -40,7 +40,8 @@ pub enum Layout {
 /// columns.
 ///
 /// Both files are read to their ends; there are at most 10,000,000 executions. A refused record is written as such and counted.
-/// It ends with `Refused` if there is one, else with `Done`. After any fault but `Show` nothing is written. Nothing is flushed.
+/// The call ends with `Refused` if any record was refused, else with `Done`. After any fault but `Show` nothing is written. The
+/// writer is not flushed.
 #[tactic(auto, using(nms_show::proofs::Offered::no_part_added))]
 pub fn judge_file<C: Read + Drop, E: Read + Drop, W: Write>(
     alloc: Global,
@@ -123,8 +124,8 @@ pub fn read_timed<R: Read + Drop>(
 /// Writes the findings about executions, which are at their places, and the refused records. There is a line or more for each,
 /// or the counts and sums of all, or columns.
 ///
-/// `TooLong` comes only if no number holds a sum, and then nothing is written. If the output fails, a prefix was written.
-/// Nothing is flushed.
+/// The fault `TooLong` is returned only if a sum is too large for the number that holds it. Then nothing is written. If the
+/// output fails, only a prefix was written. The writer is not flushed.
 pub fn write_findings<W: Write>(
     alloc: Global,
     roster: &Roster,

@@ -67,7 +67,7 @@ pub(crate) fn standing_in(
     requires own { found.now.standing ≡ own_standing found.now.passed.items }
     ensures { result ≡ standing_in (sizes_in tape.now) tape.now.changes.items execution.now }
 {
-    // The parameter is there because only the clauses speak of the tape.
+    // The function takes the tape only because its contract mentions it.
     let _ = tape;
     rows_have_one_rank_order();
     if is_alone(execution) {

@@ -7,10 +7,10 @@ use crate::execution::Execution;
 use crate::finding::Finding;
 use crate::quality::{Place, quality_of};
 
-/// How many classes of sizes there are.
+/// The number of size classes of executions.
 pub(crate) const SIZES: usize = 6;
 
-/// The name of the class at a place, in shares of an execution.
+/// The name of the size class at this place: a range of the shares of an execution.
 pub(crate) fn name_of_size(place: usize) -> &'static str
     ensures { is_plain result.now ≡ true }
 {
@@ -24,7 +24,7 @@ pub(crate) fn name_of_size(place: usize) -> &'static str
     }
 }
 
-/// The class of a number of shares.
+/// The place of the size class of an execution with this number of shares.
 pub(crate) fn size_class(shares: u32) -> usize
     ensures class { result ≡ size_class shares }
     ensures within { result < SIZES }
@@ -47,21 +47,21 @@ pub(crate) fn size_class(shares: u32) -> usize
 /// How well some executions were done.
 #[derive(Clone, Copy)]
 pub(crate) struct Worth {
-    /// The number of their shares.
+    /// The number of shares of these executions.
     pub(crate) shares: u64,
     /// The shares of executions that have a best bid and a best offer.
     pub(crate) measured: u64,
-    /// Executions at a better price than the quote, or between the quotes.
+    /// The number of executions at a better price than the quote, or between the quotes.
     pub(crate) improved: u64,
-    /// Executions at the quote, or at one of them.
+    /// The number of executions at the quote, or at one of the quotes.
     pub(crate) at: u64,
-    /// Executions outside of the quote.
+    /// The number of executions outside of the quote.
     pub(crate) outside: u64,
     /// The sum of quoted spreads times shares, in nanodollars.
     pub(crate) quoted: i128,
-    /// The sum of effective spreads times shares.
+    /// The sum of effective spreads times shares, in nanodollars.
     pub(crate) effective: i128,
-    /// The sum of price improvements times shares.
+    /// The sum of price improvements times shares, in nanodollars.
     pub(crate) improvement: i128,
 }
 
@@ -80,7 +80,7 @@ impl Worth {
         }
     }
 
-    /// The sums of one execution. `None` comes only if no number holds a sum.
+    /// The sums of one execution. Returns `None` only if a sum is too large for the number that holds it.
     pub(crate) fn of(execution: &Execution, finding: &Finding) -> Option<Worth> {
         let shares = execution.shares.get();
         let mut worth = Worth::none();
@@ -118,7 +118,7 @@ impl Worth {
         })
     }
 
-    /// An amount for each of the shares that were measured, rounded towards zero; nothing if there are none.
+    /// The average of an amount over the measured shares, rounded towards zero; `None` if no share was measured.
     pub(crate) fn average(&self, amount: i128) -> Option<i128> {
         if self.measured == 0 {
             return None;
