@@ -34,7 +34,7 @@ pub struct Boards {
     opening: Vec<Lot>,
     /// The round lot that each symbol has now.
     lots: Vec<Lot>,
-    /// `MOST_ROWS` cells for each symbol, by participant place.
+    /// The cells of all symbols, symbol by symbol: `MOST_ROWS` (32) for each symbol, by participant place.
     cells: Vec<Cell>,
     /// The rank orders of each symbol, by place, so that a look ranks nothing.
     ranks: Vec<SymbolRanks>,
@@ -43,7 +43,8 @@ pub struct Boards {
     applied: u64,
 }
 
-/// It has its own `Drop`, so that a function that holds one has one call at each exit, and not one for each part (docs/GATE.md).
+/// This type has its own `Drop`. So a function that holds such a value has one call at each exit, and not one for each part
+/// (docs/GATE.md).
 impl Drop for Boards {
     fn drop(self) {
         let Boards {
@@ -119,7 +120,7 @@ impl Boards {
         })
     }
 
-    /// Takes everything off the board, so that it is as `new` made it. It takes no memory.
+    /// Takes everything off the board, so that it is as it was when it was made. It takes no memory.
     pub fn clear(&mut self)
         ensures { self.new ≡ opening self.old.sizes }
     {
@@ -130,7 +131,8 @@ impl Boards {
         self.applied = 0;
     }
 
-    /// Whether the roster holds the change and fewer than `MOST_CHANGES` were applied.
+    /// Whether a change can be applied. Its participant and symbol are on the roster, and fewer than `MOST_CHANGES`
+    /// (10,000,000) changes were applied.
     pub fn takes(&self, change: &Change) -> bool
         ensures { result ≡ takes self.now change.now }
     {
@@ -182,7 +184,8 @@ impl Boards {
         self.cells[place_of(part, sym)].row(side, part, lot)
     }
 
-    /// The price of that quotation, if there is one. It takes less than the quotation, whose size is in round lots.
+    /// The price of a participant's quotation on a side of a symbol. It has no meaning if there is no quotation. It takes less
+    /// work than the quotation, whose size is in round lots.
     #[inline(always)]
     pub fn price(&self, side: Side, part: Part, sym: Sym) -> Price
         requires part { part < self.now.sizes.parts }
@@ -367,7 +370,7 @@ impl Boards {
         view
     }
 
-    /// Writes the quotations of one symbol over what a view shows, as `view` gives them.
+    /// Writes the quotations of one symbol into a view, in place of all that the view shows.
     pub fn view_into(&self, sym: Sym, view: &mut View)
         ensures { view.new ≡ seen_on self.now sym }
     {
@@ -375,7 +378,7 @@ impl Boards {
         self.fill(sym, view);
     }
 
-    /// Fills the empty view of a symbol.
+    /// Fills the empty view of a symbol with the symbol's quotations.
     fn fill(&self, sym: Sym, view: &mut View)
         requires { view.old ≡ seen_nothing self.now.applied sym }
         ensures { view.new ≡ seen_on self.now sym }
@@ -420,7 +423,7 @@ impl Boards {
     }
 }
 
-/// Appends a row, if there is one.
+/// Appends a row to a list of rows, if there is a row to append.
 fn push_some(rows: &mut ArrayVec<Row, MOST_ROWS>, row: Option<Row>)
     requires { length rows.old.items < MOST_ROWS }
     ensures { rows.new.items ≡ rows.old.items ++ cons_option row [] }
@@ -450,8 +453,8 @@ fn place_of(part: Part, sym: Sym) -> usize
     MOST_ROWS * usize::from(sym.get()) + usize::from(part.get())
 }
 
-/// Withdraws the participant's cell in each symbol, as the change with that number. A cell that has no quote on either side
-/// stays, and its symbol with it.
+/// Withdraws a participant's quotations in each symbol, by the change of the given number. A cell without a quotation stays as
+/// it is, and so do the rank orders of its symbol.
 fn withdraw_from(
     number: u32,
     part: Part,
@@ -487,7 +490,7 @@ fn withdraw_from(
     }
 }
 
-/// Alters the participant's cell in a symbol, as the change with that number says, and with it the symbol's rank orders.
+/// Alters a participant's cell in a symbol as a change of the given number says. The symbol's rank orders and best rows follow.
 fn alter(
     number: u32,
     change: &Change,

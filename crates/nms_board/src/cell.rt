@@ -1,4 +1,4 @@
-//! One participant in one symbol, which is a cell of `specs/Cells`.
+//! What one participant has in one symbol, which is a cell of `specs/Cells`.
 ghost use Rattle.std.specs.Prelude.{◌≡◌, ℕ, ◌*◌, ◌≤◌, IfOk, IfSome, Some, false, length, true, replicate};
 ghost use Rattle.std.specs.Option.{is_some};
 ghost use Rattle.nms_board.specs.Cells.{empty_cell};
@@ -11,15 +11,15 @@ use nms_units::{Lot, Price, Shares};
 use std::alloc::{AllocError, Global};
 use std::marker::Model;
 
-/// One side of a participant in a symbol, and the number of the change that last altered it. It takes 16 bytes, so that the
-/// cells of a symbol, which are read one after another, are close together.
+/// What a participant quotes on one side of a symbol, and the number of the change that last altered it. It takes 16 bytes, so
+/// that the cells of a symbol, which are read one after another, are close together.
 #[derive(Clone, Copy, PartialEq, Eq)]
 pub struct Held {
     /// The price, in 1/10,000 dollar; the least price if nothing is quoted.
     price: Price,
     /// The shares; 0 if nothing is quoted.
     shares: Shares,
-    /// The number of that change, 1 to 10,000,000; 0 if no change altered the side.
+    /// The number of the change that last altered the side, 1 to 10,000,000; 0 if no change altered it.
     receipt: u32,
 }
 
@@ -56,7 +56,7 @@ impl Held {
         }
     }
 
-    /// A side that the change with that number altered.
+    /// A side to which the change of the given number gave this quotation.
     fn of(number: u32, quote: Option<SideQuote>) -> Self
         ensures quote { result.quote ≡ quote }
         ensures receipt { result.receipt ≡ number }
@@ -107,8 +107,8 @@ impl Held {
         self.shares.get() > 0
     }
 
-    /// Takes what the change with that number says. The receipt stays if nothing is altered. The rest is always written,
-    /// because a branch here would be taken at random.
+    /// Gives the side the quotation of a change, with the number of the change. The older number stays if the price and the
+    /// shares stay. All fields are always written, because a branch here would be taken at random.
     pub(crate) fn take(&mut self, number: u32, quote: Option<SideQuote>)
         ensures { self.new ≡ held_after number quote self.old }
     {
@@ -120,14 +120,14 @@ impl Held {
     }
 }
 
-/// A participant in a symbol.
+/// What a participant has in a symbol: the state of its quotations, its bid and its offer.
 #[derive(Clone, Copy)]
 pub struct Cell {
-    /// The state; `None` if the participant never quoted there.
+    /// The state of the participant's quotations in the symbol; `None` if the participant never sent a state.
     pub state: Option<QState>,
-    /// Its bid, hidden while the state is `Halted`.
+    /// The participant's bid, hidden while the state is `Halted`.
     pub bid: Held,
-    /// Its offer, hidden while `Halted`.
+    /// The participant's offer, hidden while the state is `Halted`.
     pub offer: Held,
 }
 
@@ -136,7 +136,7 @@ impl Cell {
     ghost use Rattle.nms_board.specs.Ranks.{size_of};
     ghost use Rattle.nms_board.specs.Shown.{row_of_cell};
 
-    /// The cell of a participant that never quoted there.
+    /// The cell of a participant that never quoted in the symbol.
     pub(crate) fn empty() -> Self
         ensures { result ≡ empty_cell }
     {
@@ -147,7 +147,7 @@ impl Cell {
         }
     }
 
-    /// Takes a quote of both sides, as the change with that number.
+    /// Takes the state and both sides of a quotation, by the change of the given number.
     pub(crate) fn quote(
         &mut self,
         number: u32,
@@ -162,14 +162,15 @@ impl Cell {
         self.offer.take(number, offer);
     }
 
-    /// Takes a change of only the state.
+    /// Takes a new state, and leaves both sides as they are.
     pub(crate) fn restate(&mut self, state: QState)
         ensures { self.new ≡ restated state self.old }
     {
         self.state = Some(state);
     }
 
-    /// Takes a change of the participant in the symbol, as the change with that number. A new round lot leaves the cell as it is.
+    /// Takes what a change of the given number says about the participant in the symbol. A new round lot leaves the cell as it
+    /// is.
     pub(crate) fn alter(&mut self, number: u32, change: &Change)
         ensures { self.new ≡ altered number change.now self.old }
     {
@@ -186,7 +187,7 @@ impl Cell {
         }
     }
 
-    /// Takes a withdrawal of both sides, as the change with that number. The state stays.
+    /// Removes the quotations of both sides, by the change of the given number. The state stays.
     pub(crate) fn withdraw(&mut self, number: u32)
         ensures { self.new ≡ withdrawn number self.old }
     {
@@ -201,7 +202,7 @@ impl Cell {
         self.bid.is_quoted() | self.offer.is_quoted()
     }
 
-    /// What the cell has on a side.
+    /// What the participant quotes on a side, and the number of the change that last altered it.
     pub(crate) fn held(&self, side: Side) -> &Held
         ensures { result.now ≡ on_side side self.now.bid self.now.offer }
     {
@@ -211,7 +212,8 @@ impl Cell {
         }
     }
 
-    /// Whether a side shows the same as that of another cell of the participant, as far as can be known without the lot.
+    /// Whether a side has the same quotation, receipt and state as in another cell of the participant. Then it shows the same
+    /// in any round lot.
     pub(crate) fn shows_as(&self, was: &Cell, side: Side) -> bool
         ensures { result ≡ true → (lot part : ℕ) → row_of_cell lot part side was.now ≡ row_of_cell lot part side self.now }
     {
@@ -220,7 +222,8 @@ impl Cell {
         held.receipt == held_before.receipt && held == held_before && self.state == was.state
     }
 
-    /// The size of a side's quotation in lots of the given size; 0 if it has none.
+    /// The size that a side shows in shares, rounded down to round lots of the given size. It is 0 if the side shows no
+    /// quotation.
     pub(crate) fn size(&self, side: Side, lot: Lot) -> u32
         ensures { (part : ℕ) → result ≡ size_of (row_of_cell lot part side self.now) }
     {
@@ -230,7 +233,7 @@ impl Cell {
         lot.displayed(self.held(side).shares)
     }
 
-    /// The price of a side's quotation, if there is one.
+    /// The price of a side's quotation. It has no meaning if the side has no quotation.
     #[inline(always)]
     #[tactic(auto, using(crate::proofs::RowLemmas::quotation_price))]
     pub(crate) fn price(&self, side: Side) -> Price
@@ -239,7 +242,7 @@ impl Cell {
         self.held(side).price
     }
 
-    /// The quotation of a side in lots of the given size, if there is one.
+    /// The quotation that a side shows in round lots of the given size. `None` if it is halted or is less than a round lot.
     #[inline(always)]
     pub(crate) fn row(&self, side: Side, part: Part, lot: Lot) -> Option<Row>
         ensures { result ≡ row_of_cell lot part side self.now }
@@ -266,7 +269,7 @@ pub(crate) fn clear_cells(cells: &mut [Cell])
     cells.fill(Cell::empty());
 }
 
-/// The cells of `syms` symbols, `MOST_ROWS` each, of participants that never quoted.
+/// The cells of a number of symbols, `MOST_ROWS` (32) for each, of participants that never quoted.
 pub(crate) fn empty_cells(alloc: Global, syms: usize) -> Result<Vec<Cell>, AllocError>
     requires { syms ≤ MOST_SYMBOLS }
     ensures { IfOk result (λ cells. cells.items ≡ replicate (MOST_ROWS * syms) empty_cell) }

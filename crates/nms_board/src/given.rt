@@ -10,8 +10,8 @@ use crate::row::Row;
 use arrayvec::ArrayVec;
 use nms_quote::Side;
 
-/// The rows of a side by participant place, from its rows in rank order. `None` if no side shows those. Then a row does not
-/// rank above each later one, has no share, or has the participant or the receipt of another.
+/// The rows of a side by participant place, made from rows in rank order. `None` if these are not rows that a side can show.
+/// Then a row does not rank above each later one, has no share, or has the participant or the receipt of another.
 pub(crate) fn by_place(side: Side, in_order: &[Row]) -> Option<ArrayVec<Row, MOST_ROWS>>
     requires { length in_order.now ≤ MOST_ROWS }
     ensures rows { IfSome result (λ rows. AreRows rows.items) }
@@ -46,7 +46,7 @@ fn falls(side: Side, rows: &[Row]) -> bool
     true
 }
 
-/// Whether a row ranks above each of the others.
+/// Whether a row ranks above each row of a list.
 fn ranks_above_all(side: Side, row: &Row, more: &[Row]) -> bool
     ensures { result ≡ ranks_above_all side row.now more.now }
 {
@@ -60,7 +60,8 @@ fn are_rows(rows: &[Row]) -> bool
     test_rows(rows)
 }
 
-/// As `are_rows`, for the definition that computes it.
+/// Whether rows are by participant place, each of at least one share, and no two with the same receipt. The contract names the
+/// definition that computes the answer.
 #[tactic(auto, unfolding(crate::specs::Given::are_rows))]
 fn test_rows(rows: &[Row]) -> bool
     ensures { result ≡ are_rows rows.now }
@@ -75,7 +76,7 @@ fn test_rows(rows: &[Row]) -> bool
     true
 }
 
-/// Whether a row precedes each of the others.
+/// Whether a row comes before each row of a list by participant place, and has another receipt than each of them.
 fn precedes_all(row: &Row, more: &[Row]) -> bool
     ensures { result ≡ precedes_all row.now more.now }
 {

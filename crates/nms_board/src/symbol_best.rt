@@ -34,7 +34,8 @@ impl SymbolBest {
         }
     }
 
-    /// The first rows of the orders of a symbol's cells, in lots of the given size.
+    /// The best bid and the best offer of a symbol, which are first in its rank orders. Sizes are in round lots of the given
+    /// size.
     pub(crate) fn of(lot: Lot, orders: &SymbolRanks, cells: &[Cell]) -> Self
         requires { length cells.now ≤ MOST_ROWS }
         ensures { (side : Side) → best_on side result ≡ first_row (row_among lot cells.now side) (order_on side orders.now) }
@@ -57,8 +58,9 @@ impl SymbolBest {
         if row.size == 0 { None } else { Some(row) }
     }
 
-    /// Takes the first rows of the orders after a change of a participant's cell, given the first participants before it. A
-    /// side stays if its first participant is the same, and is not the one that changed. So a cell is seldom read.
+    /// Follows a change of a participant's cell: sets each side's best row to the first of its rank order. The caller gives the
+    /// participants that were first before the change. A best row stays if its participant is still first, and is not the one
+    /// that changed. So a cell is seldom read.
     #[inline(always)]
     pub(crate) fn follow(
         &mut self,
@@ -93,7 +95,8 @@ impl SymbolBest {
     }
 }
 
-/// Takes the first row of a side's order after a change of a participant's cell, given the first participant before it.
+/// Follows a change of a participant's cell: sets a side's best row to the first of its rank order. The caller gives the
+/// participant that was first before the change.
 #[inline(always)]
 fn follow_side(
     side: Side,
@@ -137,7 +140,7 @@ fn find_row(side: Side, lot: Lot, place: u8, cells: &[Cell]) -> Option<Row>
     cell.row(side, Part::new(place)?, lot)
 }
 
-/// Resets the best rows of symbols to those of no rows.
+/// Resets the best rows of symbols, so that no side has one.
 pub(crate) fn clear_bests(bests: &mut [SymbolBest])
     ensures len { length bests.new ≡ length bests.old }
     ensures empty { All HasNone bests.new }
@@ -147,7 +150,7 @@ pub(crate) fn clear_bests(bests: &mut [SymbolBest])
     }
 }
 
-/// The best rows of `syms` symbols with no rows.
+/// The best rows of a number of symbols that have no rows.
 pub(crate) fn empty_bests(alloc: Global, syms: usize) -> Result<Vec<SymbolBest>, AllocError>
     requires { syms ≤ MOST_SYMBOLS }
     ensures symbols { IfOk result (λ bests. length bests.items ≡ syms) }

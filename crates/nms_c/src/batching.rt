@@ -66,7 +66,7 @@ pub extern "C" fn nms_raw_plan_all(
 }
 
 /// Applies changes in order, up to the first that is refused. After each it writes the best bid and the best offer of the symbol
-/// that its numbers name, also after a withdrawal. Writes how many were applied.
+/// that the change's numbers name, also after a withdrawal. Writes how many changes were applied.
 #[unsafe(no_mangle)]
 pub extern "C" fn nms_raw_apply_best(
     alloc: Global,

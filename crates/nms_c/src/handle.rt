@@ -8,7 +8,7 @@ use std::alloc::Global;
 use std::marker::Model;
 use std::ptr::null_mut;
 
-/// The mark of an open handle.
+/// The number that marks a handle as open. A closed handle has the mark 0.
 pub const OPEN: u64 = 78;
 
 #[repr(C)]
@@ -48,7 +48,7 @@ impl NmsBoard {
         Loose { at, alloc }
     }
 
-    /// A closed handle.
+    /// A closed handle, which has no board.
     pub(crate) fn shut(alloc: Global) -> NmsBoard
         ensures { (result.mark ≡ 0) × (result.value ≡ None) }
     {
@@ -59,7 +59,7 @@ impl NmsBoard {
         }
     }
 
-    /// The handle's mark.
+    /// The number that says whether the handle is open.
     pub(crate) fn mark(&mut self) -> u64
         ensures { (result ≡ self.old.mark) × (self.new ≡ self.old) }
     {

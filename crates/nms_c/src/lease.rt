@@ -1,4 +1,4 @@
-//! A share of the right to read a value, as `Part` of `left_right`, which the toolchain has.
+//! A share of the right to read a value. It works like `Part` in the `left_right` package of the toolchain.
 ghost use Rattle.std.specs.Prelude.{◌≡◌, ℕ};
 ghost use Rattle.left_right.specs.Parted.{part_owns, part_shares};
 
@@ -21,7 +21,7 @@ impl<T> Model for Lease<T> {
 }
 
 impl<T> Lease<T> {
-    /// The value.
+    /// The value, for reading.
     pub(crate) fn get(&self) -> &T
         ensures { result.now ≡ self.now.value }
     {

@@ -35,7 +35,7 @@ pub(crate) fn take_share(look: &mut NmsLook) -> Option<Lease<OpenBoard>>
     Some(replace_with(look, (), share_of))
 }
 
-/// Puts the share back.
+/// Puts the share back into the look that it came from, which opens the look.
 #[inline(always)]
 pub(crate) fn give_share(look: &mut NmsLook, lease: Lease<OpenBoard>)
     ensures { (look.new.mark ≡ open_mark) × (look.new.value ≡ Some lease.value) × (look.new.round ≡ lease.round) × (look.new.count ≡ lease.count) }

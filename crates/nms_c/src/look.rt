@@ -1,4 +1,4 @@
-//! The value that a look is given: `specs/Looked`.
+//! What a call receives in order to read a board: `specs/Looked`.
 ghost use Rattle.std.specs.Prelude.{◌≡◌, Option, None, Some, ℕ};
 ghost use Rattle.nms_c.specs.Held.{open_mark};
 ghost use Rattle.nms_calls.specs.Opened.{Opened};
@@ -9,9 +9,9 @@ use nms_calls::OpenBoard;
 use std::marker::Model;
 use std::ptr::null;
 
-/// A copy of a handle's 16 bytes, for one look. If the handle is open, it has a share of the right to read the board. There may
-/// be any number of looks while no call writes to the board. A look stores only its answer, because its own two words lie on
-/// its caller's stack.
+/// A copy of a handle's 16 bytes, for one look. If the handle is open, the copy has a share of the right to read the board. There
+/// may be any number of looks while no call writes to the board. A look changes only its own two words on its caller's stack, and
+/// its answer.
 #[repr(C)]
 #[derive(Drop)]
 pub struct NmsLook {
@@ -29,7 +29,7 @@ impl Model for NmsLook {
 }
 
 impl NmsLook {
-    /// A look with the share of a lease.
+    /// An open look, with a share of the right to read a board.
     pub(crate) fn from_lease(lease: Lease<OpenBoard>) -> NmsLook
         ensures { (result.mark ≡ open_mark) × (result.value ≡ Some lease.value) × (result.round ≡ lease.round) × (result.count ≡ lease.count) }
     {
@@ -38,7 +38,7 @@ impl NmsLook {
         NmsLook { mark: OPEN, at }
     }
 
-    /// The share of a look at an open board.
+    /// The share of the right to read the board that a look at an open board has.
     pub(crate) fn into_lease(self) -> Lease<OpenBoard>
         requires { self.mark ≡ open_mark }
         ensures { (Some result.value ≡ self.value) × (result.round ≡ self.round) × (result.count ≡ self.count) }
@@ -48,7 +48,7 @@ impl NmsLook {
         Lease { ptr }
     }
 
-    /// A look at no board.
+    /// A closed look, which has no board to read.
     pub(crate) fn shut() -> NmsLook
         ensures { (result.mark ≡ 0) × (result.value ≡ None) }
     {
@@ -58,7 +58,7 @@ impl NmsLook {
         }
     }
 
-    /// The look's mark.
+    /// The number that says whether the look is open.
     pub(crate) fn mark(&mut self) -> u64
         ensures { (result ≡ self.old.mark) × (self.new ≡ self.old) }
     {

@@ -14,8 +14,8 @@ use crate::look::NmsLook;
 use crate::taking::CLOSED;
 use nms_calls::{NmsBest, NmsOpening, NmsRow, NmsRows, NmsThrough, NmsView, answer};
 
-/// Writes the best bid, the best offer and the state of the market of a symbol. Any number of looks may be under way, as with
-/// each function here.
+/// Writes the best bid, the best offer and the state of the market of a symbol. Any number of looks at a board may be under way
+/// at once.
 #[unsafe(no_mangle)]
 pub extern "C" fn nms_raw_best_of(look: &mut NmsLook, sym: u16, out: &mut NmsBest) -> u32
     ensures closed { look.old.mark ≢ open_mark → (result ≡ 15) × (look.new ≡ look.old) }

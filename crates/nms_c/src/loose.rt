@@ -1,4 +1,4 @@
-// A box as its pointer, as in `once_cell` of the toolchain.
+// A value on the heap, kept as a plain pointer. The toolchain's `once_cell` keeps its values in the same way.
 ghost use Rattle.std.specs.Prelude.{◌≡◌};
 ghost use Rattle.std_alloc.specs.Box.Ownership.{box_owns};
 

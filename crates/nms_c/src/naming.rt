@@ -1,4 +1,4 @@
-//! What a board holds, and the numbers of its names.
+//! How many changes, participants and symbols a board has, and the places of their names.
 ghost use Rattle.std.specs.Prelude.{◌≡◌, ◌≢◌, Some};
 ghost use Rattle.nms_quote.specs.Roster.{part_text, place_in, symbol_text};
 ghost use Rattle.nms_calls.specs.Codes.{answer_of};

@@ -14,7 +14,7 @@ use nms_calls::{CallFault, NmsPlace, OpenBoard, answer, put_setup_place};
 use nms_fees::SetupFault;
 use std::alloc::Global;
 
-/// The version of the header's layout.
+/// The version of the layout of the structures that the C header declares.
 #[unsafe(no_mangle)]
 pub extern "C" fn nms_abi() -> u32
     ensures { result ≡ 2 }

@@ -1,4 +1,4 @@
-//! Plans of orders, and their check. Both are looks at a board.
+//! Planning an order on a board, and confirming a plan. Both only read the board.
 ghost use Rattle.std.specs.Prelude.{◌≡◌, ◌≢◌, IfOk};
 ghost use Rattle.nms_calls.specs.Codes.{answer_of};
 ghost use Rattle.nms_calls.specs.Findings.{confirm_fault, doubt_written, finding};
@@ -13,7 +13,7 @@ use crate::look::NmsLook;
 use crate::taking::CLOSED;
 use nms_calls::{NmsDoubt, NmsOrder, NmsPlan, answer};
 
-/// Plans an order. It works on its own stack.
+/// Plans an order. The call needs no memory but the stack of its thread.
 #[unsafe(no_mangle)]
 pub extern "C" fn nms_raw_plan_order(look: &mut NmsLook, order: &NmsOrder, out: &mut NmsPlan) -> u32
     ensures closed { look.old.mark ≢ open_mark → (result ≡ 15) × (look.new ≡ look.old) }

@@ -39,7 +39,7 @@ pub(crate) fn take(alloc: Global, board: &mut NmsBoard) -> Option<Box<OpenBoard>
     Some(replace_with(board, alloc, out_of))
 }
 
-/// Puts the board back.
+/// Puts the board back into its handle, which opens the handle.
 #[inline(always)]
 pub(crate) fn give(board: &mut NmsBoard, kept: Box<OpenBoard>)
     ensures { (board.new.mark ≡ open_mark) × (board.new.value ≡ Some kept.value) }

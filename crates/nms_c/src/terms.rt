@@ -8,7 +8,7 @@ use std::alloc::Global;
 use std::marker::Model;
 use std::ptr::null_mut;
 
-/// The mark of open terms. It differs from that of a board, so that a call can't take one for the other.
+/// The number that marks terms as open. The mark of a board differs, so that a call can't take one for the other.
 pub(crate) const TERMS_OPEN: u64 = 84;
 
 /// The roster and the fees of a setup, which are constant from opening to closing.
@@ -49,7 +49,7 @@ impl NmsTerms {
         Loose { at, alloc }
     }
 
-    /// Closed terms.
+    /// Closed terms, which have no setup.
     pub(crate) fn shut(alloc: Global) -> NmsTerms
         ensures { (result.mark ≡ 0) × (result.value ≡ None) }
     {
@@ -60,7 +60,7 @@ impl NmsTerms {
         }
     }
 
-    /// The mark of the terms.
+    /// The number that says whether the terms are open.
     pub(crate) fn mark(&mut self) -> u64
         ensures { (result ≡ self.old.mark) × (self.new ≡ self.old) }
     {

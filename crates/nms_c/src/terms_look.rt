@@ -1,4 +1,4 @@
-//! The value that a look is given: `specs/TermsLooked`.
+//! What a call receives in order to read terms: `specs/TermsLooked`.
 ghost use Rattle.std.specs.Prelude.{◌≡◌, Option, None, Some, ℕ};
 ghost use Rattle.nms_c.specs.TermsHeld.{terms_mark};
 ghost use Rattle.nms_fees.specs.Settings.{Settings};
@@ -9,7 +9,8 @@ use nms_fees::Setup;
 use std::marker::Model;
 use std::ptr::null;
 
-/// A copy of a handle's 16 bytes, for one call, as `NmsLook` is of a board's.
+/// A copy of the 16 bytes of a handle of terms, for one call. If the handle is open, the copy has a share of the right to read
+/// the terms.
 #[repr(C)]
 #[derive(Drop)]
 pub struct NmsTermsLook {
@@ -27,7 +28,7 @@ impl Model for NmsTermsLook {
 }
 
 impl NmsTermsLook {
-    /// A look with the share of a lease.
+    /// An open look, with a share of the right to read terms.
     pub(crate) fn from_lease(lease: Lease<Setup>) -> NmsTermsLook
         ensures { (result.mark ≡ terms_mark) × (result.value ≡ Some lease.value) × (result.round ≡ lease.round) × (result.count ≡ lease.count) }
     {
@@ -39,7 +40,7 @@ impl NmsTermsLook {
         }
     }
 
-    /// The share of a look at open terms.
+    /// The share of the right to read the terms that a look at open terms has.
     pub(crate) fn into_lease(self) -> Lease<Setup>
         requires { self.mark ≡ terms_mark }
         ensures { (Some result.value ≡ self.value) × (result.round ≡ self.round) × (result.count ≡ self.count) }
@@ -49,7 +50,7 @@ impl NmsTermsLook {
         Lease { ptr }
     }
 
-    /// A look at no terms.
+    /// A closed look, which has no terms to read.
     pub(crate) fn shut() -> NmsTermsLook
         ensures { (result.mark ≡ 0) × (result.value ≡ None) }
     {
@@ -59,7 +60,7 @@ impl NmsTermsLook {
         }
     }
 
-    /// The look's mark.
+    /// The number that says whether the look is open.
     pub(crate) fn mark(&mut self) -> u64
         ensures { (result ≡ self.old.mark) × (self.new ≡ self.old) }
     {

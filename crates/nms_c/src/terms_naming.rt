@@ -1,4 +1,4 @@
-//! Places for the names of terms, as `naming` has them for a board.
+//! The names of a setup's participants and symbols, and their places on the roster. The calls read them from open terms.
 ghost use Rattle.std.specs.Prelude.{◌≡◌, ◌≢◌, Some};
 ghost use Rattle.nms_quote.specs.Roster.{part_text, place_in, symbol_text};
 ghost use Rattle.nms_calls.specs.Codes.{answer_of};

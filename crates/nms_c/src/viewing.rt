@@ -1,5 +1,5 @@
-//! Terms, and calls on a view that is a value. A view's call reads the terms with a share of the right to read them, or reads
-//! none. So any number of these calls may run at once.
+//! Opening and closing terms, and calls on a view that the caller holds. Such a call only reads the terms, or uses none. So any
+//! number of them may run at once.
 ghost use Rattle.std.specs.Prelude.{◌≡◌, ◌≢◌, IfErr, IfOk, None, Option, Some};
 ghost use Rattle.nms_calls.specs.Codes.{answer_of, setup_code};
 ghost use Rattle.nms_calls.specs.ViewCalls.{IsChecked, IsPlanned, IsThrough};
@@ -141,7 +141,7 @@ pub extern "C" fn nms_raw_through_view(view: &NmsView, millionths: u64, out: &mu
     answer(through_view(view, millionths, out))
 }
 
-/// Writes a view with at most `most[n]` shares of participant n on a side.
+/// Writes a view in which participant n has at most `most[n]` shares on a side.
 #[unsafe(no_mangle)]
 pub extern "C" fn nms_raw_reduce_view(
     view: &NmsView,

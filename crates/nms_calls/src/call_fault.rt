@@ -1,4 +1,4 @@
-//! Why a call is refused, and the code that crosses: `specs/Codes`.
+//! Why a call is refused, and the code that the caller receives for it: `specs/Codes`.
 ghost use Rattle.std.specs.Prelude.{◌≡◌, ◌≤◌, Ok};
 ghost use Rattle.std.specs.Result.{result_err};
 ghost use Rattle.nms_calls.specs.Codes.{answer_of, code_of, line_code, setup_code};
@@ -27,7 +27,7 @@ pub enum CallFault {
     Doubted,
     /// 17: the board is open already.
     OpenAlready,
-    /// 18: a null pointer. The header finds it.
+    /// 18: a pointer that must not be null is null. The C header finds this before a call reaches the library.
     Null,
     /// 19: the caller's buffer is too small.
     NoRoom,
@@ -40,7 +40,7 @@ pub enum CallFault {
 }
 
 impl CallFault {
-    /// The code that crosses, 1 to 114.
+    /// The code that the caller receives for this refusal, 1 to 114.
     pub fn code(self) -> u32
         ensures code { result ≡ code_of self }
         ensures low { 1 ≤ result }

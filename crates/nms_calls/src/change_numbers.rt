@@ -1,4 +1,4 @@
-//! The numbers of a change as they cross.
+//! A change of a board as numbers, as a caller in another language gives it to the library.
 ghost use Rattle.std.specs.Prelude.{◌≡◌};
 ghost use Rattle.nms_calls.specs.ChangeNumbers.{no_change};
 
@@ -8,28 +8,28 @@ ghost use Rattle.nms_calls.specs.ChangeNumbers.{no_change};
 pub struct NmsChange {
     /// The best bid in 1/10,000 dollar; 0 with 0 shares for none.
     pub bid_price: u64,
-    /// The best offer, as `bid_price`.
+    /// The best offer in 1/10,000 dollar; 0 with 0 shares for none.
     pub offer_price: u64,
     /// The shares of the bid, 1 to 999,999,999; 0 with price 0 for none.
     pub bid_shares: u32,
-    /// The shares of the offer, as `bid_shares`.
+    /// The shares of the offer, 1 to 999,999,999; 0 with price 0 for none.
     pub offer_shares: u32,
-    /// The symbol's place.
+    /// The symbol's place on the roster, counted from 0.
     pub sym: u16,
     /// The new round lot, 1 to 1,000 shares.
     pub lot: u16,
-    /// The participant's place.
+    /// The participant's place on the roster, counted from 0.
     pub part: u8,
-    /// 0 a quotation, 1 a state, 2 a withdrawal, 3 a round lot.
+    /// The kind of the change: 0 a quotation, 1 a state, 2 a withdrawal, 3 a round lot.
     pub kind: u8,
-    /// 0 automated, 1 manual, 2 halted.
+    /// The state of the participant's quotations: 0 automated, 1 manual, 2 halted.
     pub state: u8,
-    /// Ignored.
+    /// The library ignores this number. It only fills the structure to its size.
     pub spare: u8,
 }
 
 impl NmsChange {
-    /// The numbers for no change.
+    /// A change whose numbers are all 0. It fills a place that has no change.
     pub(crate) fn none() -> Self
         ensures { result ≡ no_change }
     {

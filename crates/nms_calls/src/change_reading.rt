@@ -8,7 +8,8 @@ use crate::change_numbers::NmsChange;
 use nms_quote::{Change, Part, QState, Roster, SideQuote, Sym};
 use nms_units::{Lot, Price, Shares};
 
-/// The change that numbers give on a roster, or the fault of least code. It is inlined so that the change is not copied.
+/// The change that numbers give on a roster. If they give none, the fault with the least code. It is inlined so that the change
+/// is not copied.
 #[inline(always)]
 pub(crate) fn change_of(roster: &Roster, numbers: &NmsChange) -> Result<Change, CallFault>
     ensures change { result ≡ change_said (sizes_of roster.now) numbers.now }
@@ -26,7 +27,7 @@ pub(crate) fn change_of(roster: &Roster, numbers: &NmsChange) -> Result<Change, 
     }
 }
 
-/// A quotation of both sides.
+/// Reads a change that replaces a participant's bid and offer in a symbol.
 #[inline(always)]
 fn quotation_of(roster: &Roster, numbers: &NmsChange) -> Result<Change, CallFault>
     ensures change { result ≡ quotation_said (sizes_of roster.now) numbers.now (state_said numbers.now.state)
@@ -53,7 +54,7 @@ fn quotation_of(roster: &Roster, numbers: &NmsChange) -> Result<Change, CallFaul
     })
 }
 
-/// A state of both sides.
+/// Reads a change of the state of a participant's bid and offer in a symbol. Their prices and shares stay as they are.
 fn restating_of(roster: &Roster, numbers: &NmsChange) -> Result<Change, CallFault>
     ensures change { result ≡ restating_said (sizes_of roster.now) numbers.now (state_said numbers.now.state) }
     ensures held { IfOk result (λ change. holds (sizes_of roster.now) change ≡ true) }
@@ -66,7 +67,7 @@ fn restating_of(roster: &Roster, numbers: &NmsChange) -> Result<Change, CallFaul
     Ok(Change::State { part, sym, state })
 }
 
-/// A round lot.
+/// Reads a change of a symbol's round lot.
 fn lot_of(roster: &Roster, numbers: &NmsChange) -> Result<Change, CallFault>
     ensures change { result ≡ lot_said (sizes_of roster.now) numbers.now }
     ensures held { IfOk result (λ change. holds (sizes_of roster.now) change ≡ true) }
@@ -78,7 +79,7 @@ fn lot_of(roster: &Roster, numbers: &NmsChange) -> Result<Change, CallFault>
     Ok(Change::Lot { sym, lot })
 }
 
-/// The state that a number stands for.
+/// The state of a quotation that a number means: 0 automated, 1 manual, 2 halted. `None` for any other number.
 fn state_of(number: u8) -> Option<QState>
     ensures { result ≡ state_said number }
 {
@@ -90,7 +91,8 @@ fn state_of(number: u8) -> Option<QState>
     }
 }
 
-/// One side: no quotation if both numbers are 0. `None` if the two do not form a side.
+/// The bid or the offer that a price and a number of shares form. Both are 0 for no quotation. `None` if only one of them is 0,
+/// or one is out of its range.
 fn side_of(price: u64, shares: u32) -> Option<Option<SideQuote>>
     ensures { result ≡ side_said price shares }
 {
@@ -103,7 +105,7 @@ fn side_of(price: u64, shares: u32) -> Option<Option<SideQuote>>
     }
 }
 
-/// A price and at least one share.
+/// A quotation of one side, from a price and at least one share. `None` if either is out of its range.
 fn content_of(price: u64, shares: u32) -> Option<SideQuote>
     ensures { result ≡ content_said price shares }
 {
@@ -113,7 +115,7 @@ fn content_of(price: u64, shares: u32) -> Option<SideQuote>
     }
 }
 
-/// A participant of the roster.
+/// The participant at a place of the roster. A place that the roster does not have is refused.
 pub(crate) fn part_of(roster: &Roster, place: u8) -> Result<Part, CallFault>
     ensures { result ≡ (if nat_lt place (length roster.now.parts) then Ok place else Err CallFault.NoParticipant) }
 {
@@ -124,7 +126,7 @@ pub(crate) fn part_of(roster: &Roster, place: u8) -> Result<Part, CallFault>
     }
 }
 
-/// A symbol of the roster.
+/// The symbol at a place of the roster. A place that the roster does not have is refused.
 pub(crate) fn sym_of(roster: &Roster, place: u16) -> Result<Sym, CallFault>
     ensures { result ≡ (if nat_lt place (length roster.now.syms) then Ok place else Err CallFault.NoSymbol) }
 {

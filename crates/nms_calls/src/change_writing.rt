@@ -22,7 +22,7 @@ pub(crate) fn put_opening(board: &Boards, sym: Sym, out: &mut NmsOpening)
     put_changes(changes, &mut out.change);
 }
 
-/// Writes changes to the first places, and empty ones to the others.
+/// Writes changes to the first places of an array, and empty changes to the other places.
 fn put_changes(changes: &[Change], places: &mut [NmsChange; MOST_OPENING])
     ensures numbers { AreChangesAt places.new changes.now }
     ensures said { (place : ℕ) → place < MOST_OPENING → IfSome (slice_get changes.now place) IsSaid }
@@ -98,7 +98,7 @@ fn side_numbers(side: Option<SideQuote>) -> (u64, u32)
     }
 }
 
-/// The number of a state.
+/// The number of a quotation's state: 0 automated, 1 manual, 2 halted.
 fn state_number(state: QState) -> u8
     ensures { result ≡ state_number state }
 {

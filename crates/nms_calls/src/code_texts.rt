@@ -30,7 +30,7 @@ pub fn put_code(code: u32, out: &mut [u8], bytes: &mut usize) -> Result<(), Call
     }
 }
 
-/// What a code means.
+/// The text that says what a code means. `None` if no call answers with the code.
 fn code_text(code: u32) -> Option<&'static str>
     ensures { option_map (λ text. text.now) result ≡ code_text code }
 {
@@ -94,7 +94,7 @@ fn line_with(code: u32) -> Option<LineFault>
     }
 }
 
-/// The fault of another kind that has a code.
+/// The fault that has a code and is of neither a setup nor a record.
 fn own_with(code: u32) -> Option<CallFault>
     ensures { result ≡ own_with code }
 {

@@ -9,18 +9,18 @@ use nms_rules::Breach;
 #[repr(C)]
 #[derive(Clone, Copy)]
 pub struct NmsDoubt {
-    /// 1 to 7 for K1 to K7.
+    /// The kind of the doubt, 1 to 7 for K1 to K7.
     pub doubt: u32,
-    /// 1 to 12 for P1 to P12 if the doubt is 1, else 0.
+    /// The plan's first breach of a rule, 1 to 12 for P1 to P12, if the doubt is 1, else 0.
     pub breach: u32,
-    /// The participant that is traded through if the breach is 10, else 0.
+    /// The place of the participant that is traded through if the breach is 10, else 0.
     pub part: u32,
-    /// The first cut whose bound fails, from 0 on, if the doubt is 7, else 0.
+    /// The place in the certificate, counted from 0, of the first cut whose bound fails. It is 0 unless the doubt is 7.
     pub cut: u32,
 }
 
 impl NmsDoubt {
-    /// No doubt.
+    /// The numbers of no doubt, all 0: the plan is confirmed.
     pub(crate) fn none() -> Self
         ensures { result ≡ no_doubt }
     {
@@ -32,7 +32,7 @@ impl NmsDoubt {
         }
     }
 
-    /// A doubt with its place.
+    /// The numbers of a doubt about a plan.
     pub(crate) fn of(doubt: Doubt) -> Self
         ensures { result ≡ doubt_numbers doubt }
     {
@@ -52,7 +52,7 @@ impl NmsDoubt {
         }
     }
 
-    /// A doubt with the given number and no place.
+    /// A doubt of the given kind that names no breach, no participant and no cut.
     fn plain(doubt: u32) -> Self
         ensures { result ≡ record { doubt = doubt; breach = 0; part = 0; cut = 0 } }
     {
@@ -64,7 +64,7 @@ impl NmsDoubt {
         }
     }
 
-    /// The doubt that is a breach of the plan.
+    /// The numbers of the doubt that a plan breaches a rule.
     fn of_breach(breach: Breach) -> Self
         ensures { result ≡ breached breach }
     {

@@ -44,7 +44,7 @@ impl OpenBoard {
     }
 }
 
-/// The first record of a text, and how many bytes its line has with its end.
+/// The first record of a text, and how many bytes its line takes, with the characters that end it.
 fn first_record(text: &[u8]) -> (&[u8], usize)
     requires { 0 < length text.now }
     ensures line { records_in text.now ≡ result.0.now ∷ records_in (drop result.1 text.now) }
@@ -56,7 +56,7 @@ fn first_record(text: &[u8]) -> (&[u8], usize)
     }
 }
 
-/// The place of the first line feed.
+/// The place of a text's first line feed, in bytes from the start. `None` if the text has no line feed.
 fn first_feed(text: &[u8]) -> Option<usize>
     ensures { result ≡ position (λ byte. byte == 10) text.now }
 {

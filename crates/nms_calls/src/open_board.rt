@@ -89,7 +89,7 @@ impl OpenBoard {
         ensures stands { OnOk result (Grew numbers.now self.old self.new) }
     {
         let change = change_of(self.setup.roster(), numbers)?;
-        // The prover has to see the types of a change before the change moves, so the code mentions them.
+        // The prover looks up the types of a change's fields only if it has met them, so this line names them.
         let _seen: (Option<SideQuote>, Option<Lot>) = (None, None);
         self.apply_change(change)
     }
@@ -106,7 +106,7 @@ impl OpenBoard {
         if self.rolling.version() >= MOST_BEFORE {
             return Err(CallFault::Full);
         }
-        // The prover has to see the types of a change before the change moves, so the code mentions them.
+        // The prover looks up the types of a change's fields only if it has met them, so this line names them.
         let _seen: (Option<SideQuote>, Option<Lot>) = (None, None);
         self.rolling.apply(change);
         Ok(())
@@ -142,7 +142,8 @@ impl OpenBoard {
         let version = self.rolling.version();
         let outcome = plan_on(self.rolling.board(), &order, self.setup.fees(), out);
         put_outcome(outcome, out);
-        // The plan has the version that its board counts.
+        // The board may have been opened again, and then counts fewer changes. So the plan receives the version that the caller
+        // knows.
         out.version = version;
         Ok(())
     }
@@ -181,7 +182,7 @@ impl OpenBoard {
         }
     }
 
-    /// A plan's version as the board counts it. If the plan is of another version, it is a number to which no board counts.
+    /// A plan's version as the current board counts changes. For a plan of another version, it is a number that no board reaches.
     fn own_version(&self, planned: u64) -> u64
         ensures { (result == self.now.board.applied) ≡ (planned == version self.now) }
     {

@@ -1,4 +1,4 @@
-//! The opening changes of a symbol as they cross.
+//! The opening changes of a symbol as numbers, as a caller in another language receives them.
 
 use crate::change_numbers::NmsChange;
 use nms_opening::MOST_OPENING;
@@ -7,10 +7,10 @@ use nms_opening::MOST_OPENING;
 #[repr(C)]
 #[derive(Clone, Copy)]
 pub struct NmsOpening {
-    /// How many there are.
+    /// How many opening changes the symbol has.
     pub count: u32,
     /// Always 0.
     pub spare: u32,
-    /// The changes, in the order in which they apply. The places after the last are 0.
+    /// The opening changes, in the order in which they apply. The places after the last are 0.
     pub change: [NmsChange; MOST_OPENING],
 }

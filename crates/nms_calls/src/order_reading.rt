@@ -9,7 +9,7 @@ use crate::order_numbers::NmsOrder;
 use nms_quote::{Order, OrderSide, PartSet, Roster};
 use nms_units::{Price, Shares};
 
-/// The order that numbers give on a roster, or the fault of least code.
+/// The order that numbers give on a roster. If they give none, the fault with the least code.
 pub(crate) fn order_of(roster: &Roster, numbers: &NmsOrder) -> Result<Order, CallFault>
     ensures order { result ≡ order_said (sizes_of roster.now) numbers.now }
     ensures there { IfOk result (λ order. order.sym < length roster.now.syms) }
@@ -48,7 +48,7 @@ fn set_of(roster: &Roster, digits: u32) -> Result<PartSet, CallFault>
     }
 }
 
-/// The side that a number stands for.
+/// The side of an order that a number means: 0 buys, 1 sells. `None` for any other number.
 pub(crate) fn side_of(number: u8) -> Option<OrderSide>
     ensures { result ≡ side_said number }
 {
@@ -59,7 +59,7 @@ pub(crate) fn side_of(number: u8) -> Option<OrderSide>
     }
 }
 
-/// The flag that a number stands for.
+/// The answer that a number means: 0 no, 1 yes. `None` for any other number.
 fn flag_of(number: u8) -> Option<bool>
     ensures { result ≡ flag_said number }
 {

@@ -1,4 +1,4 @@
-//! The numbers of a plan as they cross.
+//! A plan and its certificate as numbers, as they pass between the library and another language.
 
 /// An order that goes to one participant.
 #[repr(C)]
@@ -6,9 +6,9 @@
 pub struct NmsLeg {
     /// The price, in 1/10,000 dollar.
     pub price: u64,
-    /// How many shares.
+    /// How many shares are sent to the participant.
     pub shares: u32,
-    /// The participant's place.
+    /// The participant's place on the roster, counted from 0.
     pub part: u8,
     /// Always 0.
     pub spare_a: u8,
@@ -22,9 +22,9 @@ pub struct NmsLeg {
 pub struct NmsCut {
     /// The price, in 1/10,000 dollar.
     pub price: u64,
-    /// What one more share costs in nanodollars; 0 if the kind has none.
+    /// What one more share costs at this price, in nanodollars. It is 0 unless the kind is 2.
     pub marginal: i64,
-    /// 0 too much, 1 too little, 2 a marginal.
+    /// The kind of the statement: 0 too many shares must be swept first, 1 too few shares can be had, 2 a marginal cost.
     pub kind: u32,
     /// Always 0.
     pub spare: u32,
@@ -34,13 +34,13 @@ pub struct NmsCut {
 #[repr(C)]
 #[derive(Clone, Copy)]
 pub struct NmsPlan {
-    /// How many changes had been applied when it was made.
+    /// The version of the board on which the plan was made: how many changes had been applied by then.
     pub version: u64,
-    /// The cost is `cost_high` * 2^64 + `cost_low` nanodollars, fees included.
+    /// The lower half of the plan's cost. The cost is `cost_high` * 2^64 + `cost_low` nanodollars, fees included.
     pub cost_low: u64,
-    /// The upper half. It is negative if more is received than paid.
+    /// The upper half of the plan's cost. It is negative if more is received than paid.
     pub cost_high: i64,
-    /// The shares of all legs.
+    /// How many shares all legs have together.
     pub filled: u32,
     /// How many legs there are, at most 32.
     pub legs: u32,

@@ -10,7 +10,7 @@ use arrayvec::ArrayVec;
 use nms_quote::{Certificate, Cut, CutKind, Leg, Order, Part, Plan, Roster};
 use nms_units::{Money, Price, Shares};
 
-/// The plan for an order with its certificate, given by numbers on a roster, or the fault of least code.
+/// The plan and the certificate that numbers give, for an order and a roster. If they give none, the fault with the least code.
 pub(crate) fn plan_of(
     roster: &Roster,
     order: &Order,
@@ -25,7 +25,7 @@ pub(crate) fn plan_of(
     Ok((plan, cuts))
 }
 
-/// A plan for an order that fills nothing, into which another is read.
+/// An empty plan for an order, which fills nothing. The caller reads another plan into its place.
 pub(crate) fn no_plan(order: &Order) -> Plan
     ensures filled { result.filled ≡ 0 }
     ensures legs { result.legs.items ≡ [] }
@@ -39,7 +39,8 @@ pub(crate) fn no_plan(order: &Order) -> Plan
     }
 }
 
-/// As `plan_of`, but the plan and its certificate replace the ones there, which stay if there is a fault.
+/// Reads a plan and its certificate from numbers, and replaces those that the caller gave. If there is a fault, the caller's stay
+/// as they were.
 pub(crate) fn read_into(
     roster: &Roster,
     order: &Order,
@@ -71,7 +72,7 @@ pub(crate) fn read_into(
     Ok(())
 }
 
-/// The amount that the two numbers of a cost form.
+/// The cost that its upper and its lower half form, in nanodollars.
 fn cost_of(numbers: &NmsPlan) -> Money
     ensures { result ≡ cost_said numbers.now.cost_high numbers.now.cost_low }
 {
@@ -110,7 +111,7 @@ fn is_cut(cut: &NmsCut) -> bool
     Price::new(cut.price).is_some() && cut.kind <= 2
 }
 
-/// Replaces legs by those that numbers give, on a roster of n participants.
+/// Replaces the legs of a plan by those that numbers give, on a roster of n participants.
 fn read_legs(parts: usize, numbers: &[NmsLeg], legs: &mut ArrayVec<Leg, 32>)
     requires parts { parts ≤ 32 }
     requires few { length numbers.now ≤ 32 }
@@ -124,7 +125,7 @@ fn read_legs(parts: usize, numbers: &[NmsLeg], legs: &mut ArrayVec<Leg, 32>)
     }
 }
 
-/// Replaces cuts by those that numbers give.
+/// Replaces the cuts of a certificate by those that numbers give.
 fn read_cuts(numbers: &[NmsCut], cuts: &mut Certificate)
     requires few { length numbers.now ≤ 32 }
     requires range { list_all is_cut numbers.now ≡ true }
@@ -163,7 +164,7 @@ fn cut_of(cut: &NmsCut) -> Cut
     }
 }
 
-/// The kind of a cut, by its number.
+/// The kind of a cut that a number means: 0 too much, 1 too little, 2 a marginal.
 fn kind_of(cut: &NmsCut) -> CutKind
     ensures { result ≡ kind_said cut.now.kind cut.now.marginal }
 {

@@ -29,7 +29,7 @@ pub(crate) fn put_plan(plan: &Plan, certificate: &Certificate, out: &mut NmsPlan
     put_cuts(cuts, &mut out.cut);
 }
 
-/// Writes legs to the first places, and empty ones to the others.
+/// Writes legs to the first places of an array, and empty legs to the other places.
 fn put_legs(legs: &[Leg], places: &mut [NmsLeg; 32])
     ensures { AreLegs places.new legs.now }
 {
@@ -43,7 +43,7 @@ fn put_legs(legs: &[Leg], places: &mut [NmsLeg; 32])
     }
 }
 
-/// Writes cuts, as `put_legs`.
+/// Writes cuts to the first places of an array, and empty cuts to the other places.
 fn put_cuts(cuts: &[Cut], places: &mut [NmsCut; 32])
     requires { All (λ cut. IsInRange cut.kind) cuts.now }
     ensures { AreCuts places.new cuts.now }
@@ -57,7 +57,7 @@ fn put_cuts(cuts: &[Cut], places: &mut [NmsCut; 32])
     }
 }
 
-/// The planner writes a plan's legs and cuts to their places at once.
+/// The planner writes each leg and each cut directly to its place among the numbers, so no copy is made.
 impl PlanRoom for NmsPlan {
     ghost use Rattle.std.specs.Prelude.{map};
     ghost use Rattle.nms_calls.specs.PlanSaid.{AreWritten, cut_said, cuts_of, leg_said, legs_of};
@@ -86,7 +86,8 @@ impl PlanRoom for NmsPlan {
     }
 }
 
-/// Writes what a plan has except its legs and cuts, which are there already, and 0 to the free places.
+/// Completes a plan whose legs and cuts are written already: it writes the version, the cost and the shares, and 0 to the free
+/// places.
 pub(crate) fn put_outcome(outcome: Outcome, out: &mut NmsPlan)
     requires { AreWritten out.old }
     ensures { (order : Terms) → AreNumbersOf (plan_of order (map leg_said (legs_of out.old)) outcome) (map cut_said (cuts_of out.old)) out.new }
@@ -100,7 +101,7 @@ pub(crate) fn put_outcome(outcome: Outcome, out: &mut NmsPlan)
     clear_cuts(out.cuts as usize, &mut out.cut);
 }
 
-/// Writes no leg to the places from n on.
+/// Writes empty legs from place n to the last place.
 fn clear_legs(count: usize, places: &mut [NmsLeg; 32])
     requires { count ≤ 32 }
     ensures before { take count places.new ≡ take count places.old }
@@ -112,7 +113,7 @@ fn clear_legs(count: usize, places: &mut [NmsLeg; 32])
     }
 }
 
-/// Writes no cut to the places from n on.
+/// Writes empty cuts from place n to the last place.
 fn clear_cuts(count: usize, places: &mut [NmsCut; 32])
     requires { count ≤ 32 }
     ensures before { take count places.new ≡ take count places.old }
@@ -163,14 +164,14 @@ fn marginal_number(marginal: Money) -> i64
     marginal.get() as i64
 }
 
-/// The upper half of an amount.
+/// The upper half of a cost: the amount divided by 2^64, rounded down.
 fn cost_high(cost: Money) -> i64
     ensures { result ≡ int_div_euclid cost (pos (2 ^ 64)) }
 {
     cost.get().div_euclid(1 << 64) as i64
 }
 
-/// The lower half of an amount.
+/// The lower half of a cost: what is left after division by 2^64.
 fn cost_low(cost: Money) -> u64
     ensures { result ≡ unsigned_abs (int_rem_euclid cost (pos (2 ^ 64))) }
 {

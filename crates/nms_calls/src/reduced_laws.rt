@@ -7,14 +7,14 @@ pub fn numbers_say_one_view()
     ensures { NumbersSayOneView }
 {}
 
-/// If numbers said a view on a roster, the numbers that `reduce_view` writes from them say the reduced view there. So
-/// `plan_view`, `confirm_view` and `through_view` read it there.
+/// If numbers said a view on a roster, the numbers that `reduce_view` writes from them say the reduced view on it. So
+/// `plan_view`, `confirm_view` and `through_view` read the reduced view from them.
 pub fn reduced_numbers_say_the_view()
     ensures said { ReducedNumbersSayTheView }
     ensures read { ReducedNumbersAreReadSo }
 {}
 
-/// What `plan_view` answers and writes for those numbers is a plan on the reduced view: the best lawful one there.
+/// For the numbers of a reduced view, `plan_view` writes a plan on the reduced view: the best lawful one.
 pub fn a_plan_is_on_the_reduced_view()
     ensures { PlansAreOnTheReducedView }
 {}

@@ -12,17 +12,18 @@ use crate::text_writing::put_text;
 use nms_fees::Setup;
 use nms_opening::MOST_BEFORE;
 
-/// What a board holds.
+/// How many changes, participants and symbols a board has.
 #[repr(C)]
 #[derive(Clone, Copy)]
 pub struct NmsCounts {
     /// How many changes were applied.
     pub applied: u64,
-    /// How many more may be applied: together they are 2^63. The setup's limit of the tape does not count here.
+    /// How many more changes may be applied. With those applied before they are 2^63. The setup's limit of the tape does not
+    /// count here.
     pub room: u64,
-    /// How many participants there are.
+    /// How many participants the roster has.
     pub parts: u32,
-    /// How many symbols there are.
+    /// How many symbols the roster has.
     pub syms: u32,
 }
 
@@ -40,7 +41,7 @@ impl OpenBoard {
         }
     }
 
-    /// The setup.
+    /// The setup from which the board was opened.
     pub fn setup(&self) -> &Setup
         ensures { result.now ≡ self.now.settings }
     {

@@ -48,7 +48,7 @@ impl OpenBoard {
     }
 }
 
-/// The side of a market that a number stands for.
+/// The side of a market that a number means: 0 the bids, 1 the offers. `None` for any other number.
 pub(crate) fn market_side_of(number: u8) -> Option<Side>
     ensures { result ≡ market_side_said number }
 {

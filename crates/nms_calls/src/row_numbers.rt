@@ -11,14 +11,14 @@ use nms_nbbo::Market;
 pub struct NmsRow {
     /// The price, in 1/10,000 dollar.
     pub price: u64,
-    /// The receipts of one symbol are in the order of the changes that last altered a side's price or shares. Each is at least
-    /// 1 and at most the version. Until 9,990,000 changes were applied it is the number of that change.
+    /// The receipts of a symbol's quotations are in the order of the changes that last altered their price or shares. Each is at
+    /// least 1 and at most the version. Until 9,990,000 changes were applied, a receipt is the number of that change.
     pub receipt: u64,
     /// The size in shares: whole round lots, at least one.
     pub size: u32,
-    /// The participant's place.
+    /// The participant's place on the roster, counted from 0.
     pub part: u8,
-    /// 1 if it is protected, 0 if it is manual.
+    /// 1 if the quotation is protected, 0 if it is manual.
     pub is_protected: u8,
     /// Always 0.
     pub spare: u16,
@@ -34,7 +34,7 @@ pub struct NmsBest {
     pub bid: NmsRow,
     /// The best offer.
     pub offer: NmsRow,
-    /// 0 empty, 1 one-sided, 2 normal, 3 locked, 4 crossed.
+    /// The state of the market: 0 empty, 1 one-sided, 2 normal, 3 locked, 4 crossed.
     pub market: u32,
     /// Always 0.
     pub spare: u32,
@@ -44,15 +44,15 @@ pub struct NmsBest {
 #[repr(C)]
 #[derive(Clone, Copy)]
 pub struct NmsRows {
-    /// The prices of the rows, in 1/10,000 dollar.
+    /// The shares of all rows together.
     pub total: u64,
-    /// The receipts of the rows.
+    /// The prices of the rows, in 1/10,000 dollar.
     pub price: [u64; 32],
-    /// The sizes of the rows, in shares.
+    /// The receipts of the rows, which order them by time.
     pub receipt: [u64; 32],
-    /// The places of the rows' participants.
+    /// The sizes of the rows, in shares.
     pub size: [u32; 32],
-    /// Their participants' places.
+    /// The places of the rows' participants on the roster.
     pub part: [u8; 32],
     /// 1 if a row is protected, 0 if it is manual.
     pub is_protected: [u8; 32],
@@ -68,9 +68,9 @@ pub struct NmsRows {
 pub struct NmsView {
     /// How many changes were applied.
     pub version: u64,
-    /// The state of the market, as in `NmsBest`.
+    /// The state of the market: 0 empty, 1 one-sided, 2 normal, 3 locked, 4 crossed.
     pub market: u32,
-    /// The symbol's place.
+    /// The symbol's place on the roster, counted from 0.
     pub sym: u16,
     /// Always 0.
     pub spare: u16,
@@ -88,16 +88,16 @@ pub struct NmsThrough {
     pub version: u64,
     /// How many bids there are. The places after the last are rows of size 0.
     pub bids: u32,
-    /// How many offers there are; as `bids`.
+    /// How many offers there are. The places after the last are rows of size 0.
     pub offers: u32,
-    /// The bids above the price.
+    /// The protected bids above the price.
     pub bid: [NmsRow; 32],
-    /// The offers below it.
+    /// The protected offers below the price.
     pub offer: [NmsRow; 32],
 }
 
 impl NmsRow {
-    /// The numbers that mean no row.
+    /// The numbers of an empty place, which has no row: all are 0.
     pub(crate) fn none() -> Self
         ensures { result ≡ no_row }
     {
@@ -111,7 +111,7 @@ impl NmsRow {
         }
     }
 
-    /// The numbers of a row, if there is one.
+    /// The numbers of a row. All are 0 if there is no row.
     #[inline(always)]
     pub(crate) fn of(row: &Option<Row>) -> Self
         ensures { result ≡ row_numbers row.now }
@@ -138,7 +138,7 @@ impl NmsRow {
     }
 }
 
-/// The number of a market's state.
+/// The number of a market's state: 0 empty, 1 one-sided, 2 normal, 3 locked, 4 crossed.
 pub(crate) fn market_number(market: Market) -> u32
     ensures { result ≡ market_number market }
 {

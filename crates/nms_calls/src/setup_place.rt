@@ -8,31 +8,32 @@ use nms_setup_places::{Examined, Finding, KnownKey, SetupTable, Spot, examine};
 use std::alloc::Global;
 use std::str;
 
-/// Why a text is no setup, and where. All 0 if it is one.
+/// Why a text is no setup, and where. All numbers are 0 if the text is a setup.
 #[repr(C)]
 #[derive(Clone, Copy)]
 pub struct NmsPlace {
-    /// 1 to 8 for C1 to C8.
+    /// The kind of the fault, 1 to 8 for C1 to C8.
     pub code: u32,
-    /// 0 if the text is no document; 1 for the document itself, 2 for an element of `participant`, 3 for one of `symbol`.
+    /// The part of the text with the fault: 1 the document itself, 2 an element of `participant`, 3 an element of `symbol`. 0 if
+    /// the text is no document.
     pub table: u32,
     /// 1 to 12 for a key that is missing or has a wrong value; 13 for a key that is not allowed there; 14 for a name that an
     /// earlier element has; 15 for an element that is no table. 0 if the text is no document.
     pub spot: u32,
     /// Always 0.
     pub spare: u32,
-    /// The element's place in its array, counted from 0; else 0.
+    /// The place, counted from 0, of the element with the fault in its array. 0 if the fault is in no element.
     pub element: u64,
-    /// The place of the earlier element that has the name if the spot is 14, else 0.
+    /// If an earlier element has the same name, the place of that element in its array; else 0.
     pub twin: u64,
     /// If the text is no document, how many bytes come before the place at which reading stopped, else 0.
     pub start: u64,
-    /// How many bytes come before the end of what was not expected, else 0.
+    /// If the text is no document, how many bytes come before the end of what was not expected, else 0.
     pub end: u64,
 }
 
-/// Writes why a text is no setup, and where: the first fault of least number. A text that is not UTF-8 is refused from its
-/// first byte to its last. Takes memory and gives it back; `NoMemory` if out of memory.
+/// Writes why a text is no setup, and where: the first of the faults with the least code. A text that is not UTF-8 is refused
+/// from its first byte to its last. Takes memory and gives it back; `NoMemory` if out of memory.
 pub fn put_setup_place(alloc: Global, text: &[u8], out: &mut NmsPlace) -> Result<(), CallFault>
     ensures placed { OnOk result (IsPlaceOf text.now out.new) }
     ensures refused { IfErr result (λ fault. fault ≡ CallFault.Setup SetupFault.NoMemory) }
@@ -55,7 +56,7 @@ pub fn put_setup_place(alloc: Global, text: &[u8], out: &mut NmsPlace) -> Result
     }
 }
 
-/// The first of the faults with the least number.
+/// The first of a setup's faults with the least code.
 fn least(found: &[Finding]) -> Option<Finding>
     ensures { result ≡ least found.now }
 {
@@ -67,7 +68,7 @@ fn least(found: &[Finding]) -> Option<Finding>
     first
 }
 
-/// A fault, unless a later one has a lesser number.
+/// The one of two faults that has the smaller code. If their codes are equal, it is the earlier one.
 fn lesser(found: Finding, later: Option<Finding>) -> Finding
     ensures { result ≡ lesser found later }
 {
@@ -88,7 +89,7 @@ fn placed(found: Option<Finding>) -> NmsPlace
 }
 
 impl NmsPlace {
-    /// The numbers for no fault.
+    /// The numbers if a text has no fault: all are 0.
     fn none() -> Self
         ensures { result ≡ no_place }
     {
@@ -104,7 +105,7 @@ impl NmsPlace {
         }
     }
 
-    /// The numbers for a text that is no document: reading stopped between two places.
+    /// The place in a text that is no document. The two numbers are the bytes before what was not expected, and before its end.
     fn no_document(start: usize, end: usize) -> Self
         ensures { result ≡ no_document start end }
     {
@@ -137,7 +138,7 @@ impl NmsPlace {
     }
 }
 
-/// The number of a table.
+/// The number of the part of a setup that has a fault: 1 the document itself, 2 a participant, 3 a symbol.
 fn table_number(table: SetupTable) -> u32
     ensures { result ≡ table_number table }
 {
@@ -148,7 +149,7 @@ fn table_number(table: SetupTable) -> u32
     }
 }
 
-/// An element's place in its array.
+/// The place, counted from 0, of a participant or a symbol among the setup's. It is 0 for the document itself.
 fn element_of(table: SetupTable) -> u64
     ensures { result ≡ element_of table }
 {
@@ -158,7 +159,7 @@ fn element_of(table: SetupTable) -> u64
     }
 }
 
-/// The number of what is wrong at a place.
+/// The number of what is wrong at a place: 1 to 12 a key, 13 an unknown key, 14 a repeated name, 15 no table.
 fn spot_number(spot: Spot) -> u32
     ensures { result ≡ spot_number spot }
 {
@@ -170,7 +171,7 @@ fn spot_number(spot: Spot) -> u32
     }
 }
 
-/// The place of the earlier element that has the name.
+/// The place of the earlier element that has the same name. It is 0 if the fault is not a repeated name.
 fn twin_of(spot: Spot) -> u64
     ensures { result ≡ twin_of spot }
 {
@@ -180,7 +181,7 @@ fn twin_of(spot: Spot) -> u64
     }
 }
 
-/// The number of a key.
+/// The number of a key that a setup may have, 1 to 12.
 fn key_number(key: KnownKey) -> u32
     ensures { result ≡ key_number key }
 {

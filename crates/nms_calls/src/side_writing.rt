@@ -44,7 +44,7 @@ pub(crate) fn put_at(out: &mut NmsRows, place: usize, row: &NmsRow)
     out.is_protected[place] = row.is_protected;
 }
 
-/// Writes rows to the first places, and empty ones to the others.
+/// Writes rows to the first places of an array, and empty rows to the other places.
 pub(crate) fn put_rows(rows: &[Row], places: &mut [NmsRow; 32])
     ensures { AreRowsAt places.new rows.now }
 {
@@ -77,9 +77,9 @@ pub(crate) fn through_at(side: Side, millionths: u64, rows: &[Row]) -> ArrayVec<
     through
 }
 
-/// Writes rows to the first places, and empty ones to the others. They are the rows of a look's side that `through_at` keeps.
-/// They are read from the board without making a view, and none is read if the best one is not beyond the price. Returns how
-/// many there are.
+/// Writes the protected rows of a side that a price in 1/1,000,000 dollar trades through. The other places of the array become
+/// empty rows. It reads the board without making a view. If the best row is not beyond the price, it reads no other. Returns how
+/// many rows it wrote.
 #[inline(always)]
 pub(crate) fn put_through(
     board: &Boards,
@@ -116,8 +116,8 @@ fn has_none_beyond(board: &Boards, side: Side, sym: Sym, millionths: u64) -> boo
     }
 }
 
-/// The quotation of a participant, unless its price is not beyond one in 1/1,000,000 dollar: most are not, and a price takes less
-/// than a quotation.
+/// The quotation of a participant if its price is beyond a given price in 1/1,000,000 dollar. Most quotations are not, and their
+/// price takes less time to read than the quotation.
 #[inline(always)]
 #[tactic(auto, using(crate::proofs::ThroughLemmas::not_beyond_is_none))]
 fn row_beyond(board: &Boards, side: Side, part: Part, sym: Sym, millionths: u64) -> Option<Row>
@@ -133,8 +133,8 @@ fn row_beyond(board: &Boards, side: Side, part: Part, sym: Sym, millionths: u64)
     }
 }
 
-/// Writes a row after the first n places, if there is one and a price in 1/1,000,000 dollar trades through it. Returns how many
-/// places have rows then.
+/// Adds a row after the first n places of an array if a price in 1/1,000,000 dollar trades through it. Returns how many places
+/// have rows then.
 #[inline(always)]
 fn put_next(
     side: Side,
@@ -166,7 +166,7 @@ fn is_through(side: Side, millionths: u64, row: &Row) -> bool
     row.protected && is_beyond(side, millionths, row.price)
 }
 
-/// Whether a price is above another in 1/1,000,000 dollar for a bid, below it for an offer.
+/// Whether a quotation's price is better than a given one in 1/1,000,000 dollar: above it for a bid, below it for an offer.
 #[inline(always)]
 fn is_beyond(side: Side, millionths: u64, price: Price) -> bool
     ensures { result ≡ is_beyond side millionths price }

@@ -110,13 +110,13 @@ impl OpenBoard {
                 Ok(())
             }
             Err(PlanTextFault::NoMemory) => Err(CallFault::Setup(SetupFault::NoMemory)),
-            // No write fails, because nothing is written.
+            // The call writes nothing to a stream, so no write can fail. A text that is no plan is the only fault that is left.
             Err(PlanTextFault::BadPlanText | PlanTextFault::WriteFault) => Err(CallFault::PlanText),
         }
     }
 }
 
-/// The fields of a record.
+/// Splits a record at its commas into fields.
 fn read_fields(row: &mut ByteRecord, text: &[u8]) -> Result<(), AllocError>
     ensures { OnOk result (fields_of row.new ≡ fields_in text.now) }
 {
@@ -127,7 +127,7 @@ fn read_fields(row: &mut ByteRecord, text: &[u8]) -> Result<(), AllocError>
     Ok(())
 }
 
-/// The change that a line says. A source of changes has no other lines.
+/// The change that a line says. A line that asks for something else is refused, because a source of changes has only changes.
 fn change_of_line(line: Line) -> Result<Change, CallFault>
     ensures { result ≡ change_of_line line }
 {
@@ -143,7 +143,7 @@ fn change_of_line(line: Line) -> Result<Change, CallFault>
     }
 }
 
-/// Whether each marginal is between -10^18 and 10^18.
+/// Whether each marginal of a certificate is between -10^18 and 10^18 nanodollars, so that it fits into its number.
 fn are_narrow(certificate: &Certificate) -> bool
     ensures { result ≡ are_narrow certificate.now.items }
 {
@@ -168,7 +168,7 @@ fn order_numbers(order: &Order) -> NmsOrder
     }
 }
 
-/// The number of an order's side.
+/// The number of an order's side: 0 buys, 1 sells.
 fn side_number(side: OrderSide) -> u8
     ensures { result ≡ side_number side }
 {

@@ -1,5 +1,5 @@
-//! Calls on a view that is a value, by the roster and the fees of a setup: `specs/ViewCalls`. None of them takes memory, and
-//! each stores only its answer, so any number of them may run at once.
+//! Calls on a view that the caller holds, under the roster and the fees of a setup: `specs/ViewCalls`. None of these calls takes
+//! memory. Each stores only its answer, so any number of them may run at once.
 ghost use Rattle.std.specs.Prelude.{◌≡◌, OnErr};
 ghost use Rattle.std.specs.Result.{result_err};
 ghost use Rattle.nms_calls.specs.ViewCalls.{IsChecked, IsPlanned, IsThrough};
@@ -44,8 +44,8 @@ pub fn plan_view(
     Ok(())
 }
 
-/// Confirms that a plan, given by its numbers, is the best lawful one for an order. Numbers give the view too. If the plan is
-/// not, it writes the doubt.
+/// Confirms that a plan is the best lawful one for an order on a view. Numbers give the plan, the order and the view. If the plan
+/// is not the best lawful one, it writes the doubt.
 ///
 /// Errors, the first that holds: `NoView`, those of the order, those of the plan, `Doubted`.
 pub fn confirm_view(

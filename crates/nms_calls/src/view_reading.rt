@@ -37,7 +37,7 @@ pub(crate) fn view_of(parts: usize, numbers: &NmsView) -> Option<View>
     Some(view)
 }
 
-/// Whether the sums and the state of the market are those of a view.
+/// Whether the numbers of a look agree with its rows: the total shares of both sides, and the state of the market.
 fn are_sums(numbers: &NmsView, view: &View) -> bool
     ensures { result ≡ true ↔ AreSums numbers.now view.now }
 {
@@ -72,7 +72,7 @@ fn rows_of(parts: usize, version: u64, numbers: &NmsRows) -> Option<ArrayVec<Row
     Some(rows)
 }
 
-/// The row at a place. `None` if a number is out of its range.
+/// The row at a place of a side's arrays. `None` if a number is out of its range.
 fn row_of(parts: usize, version: u64, numbers: &NmsRows, place: usize) -> Option<Row>
     requires parts { parts ≤ 32 }
     requires place { place < 32 }

@@ -1,5 +1,5 @@
-//! A view with at most a given number of shares of each participant on a side: `specs/ViewReduced`. It takes no memory, and
-//! stores only its answer.
+//! Reduces a view: each participant keeps at most a given number of shares on one side (`specs/ViewReduced`). The call takes no
+//! memory, and stores only its answer.
 ghost use Rattle.std.specs.Prelude.{◌≡◌, ◌≤◌, OnErr, length};
 ghost use Rattle.std.specs.Result.{result_err};
 ghost use Rattle.nms_board.specs.Ranking.{ranked_at};
@@ -49,7 +49,8 @@ pub fn reduce_view(
     Ok(())
 }
 
-/// The rows of a side, each with the lesser of its size and its participant's number of shares, if any is left.
+/// The rows of a side after a reduction. Each keeps the lesser of its size and its participant's limit, and is dropped at 0
+/// shares.
 fn reduced_rows(rows: &[Row], most: &[u32; 32]) -> ArrayVec<Row, 32>
     requires rows { AreRows rows.now }
     requires few { length rows.now ≤ 32 }
@@ -65,7 +66,7 @@ fn reduced_rows(rows: &[Row], most: &[u32; 32]) -> ArrayVec<Row, 32>
     left
 }
 
-/// A row with the lesser of its size and its participant's number of shares, if any is left.
+/// A row after a reduction: its size is at most its participant's limit. `None` if no share is left.
 fn reduced_row(row: &Row, most: &[u32; 32]) -> Option<Row>
     ensures { result ≡ reduced_row most.now row.now }
 {
@@ -76,7 +77,7 @@ fn reduced_row(row: &Row, most: &[u32; 32]) -> Option<Row>
     Some(Row { size, ..*row })
 }
 
-/// Writes the numbers of a view with other rows.
+/// Writes the numbers of a view in which other rows replace the bids and the offers.
 fn put_view(view: &View, bids: &[Row], offers: &[Row], out: &mut NmsView)
     requires bids { AreRows bids.now }
     requires offers { AreRows offers.now }

@@ -1,5 +1,5 @@
 //! Confirming a plan on a board: `specs/Doubts`. A quick look comes first: `specs/Quick` and `specs/Walk`. A view is made only
-//! if that finds something, to say what.
+//! if the quick look finds that there may be a doubt, to say which one.
 ghost use Rattle.std.specs.Prelude.{◌≡◌, ◌<◌, ◌≤◌, ◌↔◌, [], All, IsOk, MatchOption, None, OnOk, false, length, true};
 ghost use Rattle.std.specs.Result.{result_err};
 ghost use Rattle.std.specs.List.Sorted.{IsPermutation};
@@ -25,7 +25,8 @@ use nms_rules::{
 };
 use nms_units::Price;
 
-/// As `confirm`, but on what a look at a board shows for the order's symbol.
+/// Confirms that a plan for an order is optimal on what a look at a board shows for the order's symbol. It answers as `confirm`
+/// does for a view.
 ///
 /// The rows are read off the board. A view is made only if there may be a doubt, to say which one is first. Takes no memory.
 pub fn confirm_on(
@@ -44,7 +45,7 @@ pub fn confirm_on(
     find_doubt_on(board, order, fees, plan, certificate)
 }
 
-/// The first doubt, as a refusal.
+/// Looks for the first doubt about a plan and its certificate on a board. Returns the doubt as an error, if there is one.
 fn find_doubt_on(
     board: &Boards,
     order: &Order,
@@ -61,8 +62,8 @@ fn find_doubt_on(
     confirm_by_view(board, order, fees, plan, certificate)
 }
 
-/// Whether a plan and its cuts are found to be without a doubt. It walks once over the legs, once over the rows and once over
-/// the cuts. If not, there may be a doubt.
+/// Whether a plan and its cuts are found to be without a doubt. The search goes once over the legs, once over the rows and once
+/// over the cuts. If the answer is no, there may be a doubt.
 fn is_accepted(board: &Boards, order: &Order, fees: &FeeBook, plan: &Plan, cuts: &[Cut]) -> bool
     requires { order.now.sym < length board.now.sizes.lots }
     ensures { result ≡ true → doubt_of (seen_on board.now order.now.sym) order.now fees.now plan.now cuts.now ≡ None }
@@ -80,7 +81,7 @@ fn is_accepted(board: &Boards, order: &Order, fees: &FeeBook, plan: &Plan, cuts:
     are_walked(order.side, rows, most, plan.cost, cuts)
 }
 
-/// As `confirm_on`, by a view.
+/// Confirms that a plan for an order is optimal on what a look at a board shows, by making a view.
 ///
 /// It is not inlined, because each call of a function that holds a view clears its room first.
 #[inline(never)]
@@ -137,7 +138,7 @@ fn are_suited(board: &Boards, order: &Order, legs: &[Leg]) -> bool
     legs.iter().all(|leg| is_suited(board, order, leg))
 }
 
-/// Whether a leg goes to such a quotation.
+/// Whether a leg goes to a quotation that the order may trade with, at its price, with no more shares than it displays.
 fn is_suited(board: &Boards, order: &Order, leg: &Leg) -> bool
     requires { order.now.sym < length board.now.sizes.lots }
     ensures { result ≡ is_suited order.now leg.now (row_for (seen_on board.now order.now.sym) order.now.side leg.now) }
@@ -193,7 +194,7 @@ fn is_short(side: OrderSide, worst: Price, legs: &[Leg], row: &UsableRow) -> boo
         && given_to(legs, row.part) < u64::from(row.size)
 }
 
-/// Whether the legs are within what is asked, and the plan's sums are right.
+/// Whether the legs have no more shares than the order asks for, and the plan's sums are right.
 fn is_summed(order: &Order, fees: &FeeBook, plan: &Plan) -> bool
     ensures { result ≡ is_summed order.now fees.now plan.now }
 {

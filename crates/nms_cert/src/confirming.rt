@@ -42,7 +42,7 @@ pub fn confirm(
     find_doubt(view, order, fees, plan, certificate.as_slice())
 }
 
-/// The first doubt, as a refusal.
+/// Looks for the first doubt about a plan and its cuts on a view. Returns the doubt as an error, if there is one.
 fn find_doubt(
     view: &View,
     order: &Order,
@@ -62,7 +62,7 @@ fn find_doubt(
     check_cuts(order.side, rows.as_slice(), most, plan.cost, cuts)
 }
 
-/// The breach of a plan, as a doubt.
+/// Returns the breach of a plan as a doubt, if the plan has a breach.
 fn refuse_breach(found: Option<Breach>) -> Result<(), Doubt>
     ensures { result_err result ≡ breach_doubt found }
 {
@@ -98,7 +98,7 @@ fn check_cuts(
     }
 }
 
-/// The doubt, if it holds.
+/// Returns a doubt as an error, if the doubt holds.
 fn refuse_if(holds: bool, doubt: Doubt) -> Result<(), Doubt>
     ensures { result_err result ≡ when holds doubt }
 {

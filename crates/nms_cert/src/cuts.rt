@@ -25,7 +25,7 @@ pub fn has_row(rows: &[UsableRow], price: Price) -> bool
     rows.iter().any(|row| row.price == price)
 }
 
-/// Whether some usable price has no cut.
+/// Whether some price of a usable row has no cut.
 #[tactic(auto, unfolding(crate::specs::Doubts::some_lacks_cut))]
 pub(crate) fn some_lacks_cut(rows: &[UsableRow], cuts: &[Cut]) -> bool
     ensures { result ≡ some_lacks_cut rows.now cuts.now }
@@ -33,7 +33,7 @@ pub(crate) fn some_lacks_cut(rows: &[UsableRow], cuts: &[Cut]) -> bool
     rows.iter().any(|row| !has_cut(cuts, row.price))
 }
 
-/// Whether some cut is at no usable price.
+/// Whether some cut is at a price that no usable row has.
 #[tactic(auto, unfolding(crate::specs::Doubts::some_is_extra))]
 pub(crate) fn some_is_extra(rows: &[UsableRow], cuts: &[Cut]) -> bool
     ensures { result ≡ some_is_extra rows.now cuts.now }
@@ -41,7 +41,7 @@ pub(crate) fn some_is_extra(rows: &[UsableRow], cuts: &[Cut]) -> bool
     cuts.iter().any(|cut| !has_row(rows, cut.price))
 }
 
-/// Whether some cut is at a price that this one is not better than.
+/// Whether the given price is not better than that of some cut.
 fn is_not_better(side: OrderSide, price: Price, cuts: &[Cut]) -> bool
     ensures { result ≡ is_not_better side price cuts.now }
 {
@@ -63,7 +63,7 @@ pub(crate) fn is_out_of_order(side: OrderSide, cuts: &[Cut]) -> bool
     false
 }
 
-/// Whether a cut claims what the sums at its cutoff deny.
+/// Whether a cut's kind is wrong, by the shares that must be swept at its price and the shares that may be traded with.
 pub fn is_wrong_kind(rows: &[UsableRow], most: u64, cutoff: Rank, kind: CutKind) -> bool
     requires { length rows.now ≤ MOST_ROWS }
     ensures { result ≡ is_wrong_kind rows.now most cutoff kind }
@@ -76,7 +76,7 @@ pub fn is_wrong_kind(rows: &[UsableRow], most: u64, cutoff: Rank, kind: CutKind)
     }
 }
 
-/// Whether any cut claims what the sums at its cutoff deny.
+/// Whether some cut's kind is wrong, by the shares that must be swept at its price and the shares that may be traded with.
 #[tactic(auto, unfolding(crate::specs::Doubts::some_is_wrong_kind))]
 pub(crate) fn some_is_wrong_kind(
     side: OrderSide,
@@ -90,7 +90,7 @@ pub(crate) fn some_is_wrong_kind(
     cuts.iter().any(|cut| is_wrong_kind(rows, most, Rank::of(side, cut.price), cut.kind))
 }
 
-/// Whether a cut's marginal is out of its range.
+/// Whether a cut has a marginal that is out of its range.
 pub fn is_out_of_range(kind: CutKind) -> bool
     ensures { result ≡ is_out_of_range kind }
 {
@@ -102,7 +102,7 @@ pub fn is_out_of_range(kind: CutKind) -> bool
     }
 }
 
-/// Whether some cut's marginal is out of its range.
+/// Whether some cut has a marginal that is out of its range.
 #[tactic(auto, unfolding(crate::specs::Doubts::some_is_out_of_range))]
 pub(crate) fn some_is_out_of_range(cuts: &[Cut]) -> bool
     ensures { result ≡ some_is_out_of_range cuts.now }
@@ -110,7 +110,7 @@ pub(crate) fn some_is_out_of_range(cuts: &[Cut]) -> bool
     cuts.iter().any(|cut| is_out_of_range(cut.kind))
 }
 
-/// Whether a plan might cost less by a cut's marginal.
+/// Whether a cut has a marginal that leaves room for a cheaper plan at the cut's price.
 pub(crate) fn fails_bound(
     rows: &[UsableRow],
     most: u64,
@@ -129,7 +129,7 @@ pub(crate) fn fails_bound(
     }
 }
 
-/// The first cut by whose marginal a plan might cost less, counted from 0.
+/// The first cut whose marginal leaves room for a cheaper plan at the cut's price, counted from 0.
 pub(crate) fn first_failing(
     side: OrderSide,
     rows: &[UsableRow],

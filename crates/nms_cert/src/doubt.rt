@@ -14,14 +14,15 @@ pub enum Doubt {
     CutMissing,
     /// K4: a cut is at no price of a usable quotation, or the cuts are not in order, best price first and each price once.
     CutExtra,
-    /// K5: a cut is of the wrong kind: `TooMuch` if the better protected quotations are no more than can be filled;
-    /// `TooLittle` if what may be traded with is no less; `Marginal` if the better protected quotations are more.
+    /// K5: a cut is of the wrong kind, because what it claims is false. `TooMuch` claims that the better protected quotations
+    /// have more shares than can be filled. `TooLittle` claims that all shares that may be traded with are fewer than can be
+    /// filled. `Marginal` claims that the better protected quotations have no more shares than can be filled.
     WrongKind,
     /// K6: a marginal is below -10^18 or above 10^18 nanodollars.
     MarginalRange,
     /// K7: a cut's bound is below the plan's cost.
     BoundFails {
-        /// The first such cut, counted from 0.
+        /// The first cut whose bound is below the plan's cost, counted from 0.
         cut: u8,
     },
 }

@@ -9,17 +9,17 @@ use nms_quote::{Cut, CutKind, OrderSide};
 use nms_rules::{MOST_SIZE, Rank, UsableRow};
 use nms_units::{MOST_SHARES, Money, Price};
 
-/// What the rows that were passed display.
+/// How many shares are displayed by the rows that were passed so far.
 #[derive(Clone, Copy)]
 pub(crate) struct Passed {
-    /// How many shares they display.
+    /// How many shares the passed rows display.
     pub(crate) shown: u64,
-    /// How many of these are in protected rows.
+    /// How many of these shares are in protected rows, so that a sweep has to take them.
     pub(crate) swept: u64,
 }
 
 impl Passed {
-    /// No row was passed.
+    /// The sums before any row was passed.
     fn none() -> Self
         ensures { result ≡ none_passed }
     {
@@ -72,7 +72,7 @@ fn starts_at(price: Price, rows: &[UsableRow]) -> bool
     }
 }
 
-/// What is passed with the rows at a price before any other, and the rows after them.
+/// The sums after the first rows that are at the given price were passed, and the rows that remain.
 #[tactic(auto, unfolding(crate::specs::Walk::past, crate::specs::Walk::behind))]
 fn pass<'a>(price: Price, passed: Passed, rows: &'a [UsableRow]) -> (Passed, &'a [UsableRow])
     requires shown { passed.shown + length rows.now * MOST_SIZE ≤ 2 ^ 37 }
@@ -94,7 +94,7 @@ fn pass<'a>(price: Price, passed: Passed, rows: &'a [UsableRow]) -> (Passed, &'a
     (passed, later)
 }
 
-/// What is passed with one more row.
+/// The sums after one more row was passed.
 fn with_row(passed: Passed, row: &UsableRow) -> Passed
     requires shown { passed.shown ≤ 2 ^ 37 }
     requires swept { passed.swept ≤ passed.shown }
@@ -108,7 +108,7 @@ fn with_row(passed: Passed, row: &UsableRow) -> Passed
     }
 }
 
-/// How many shares a row shows, if it is protected.
+/// How many shares a protected row shows; 0 for a row that is not protected.
 fn protected_size(row: &UsableRow) -> u64
     ensures size { result ≡ protected_size row.now }
     ensures within { result ≤ row.now.size }
@@ -118,7 +118,7 @@ fn protected_size(row: &UsableRow) -> u64
     if row.protected { size } else { 0 }
 }
 
-/// Whether the sums at a cut allow its kind.
+/// Whether a cut's kind is right, by the shares that must be swept at its price and the shares that are shown there or better.
 fn is_right_kind(most: u64, kind: CutKind, swept: u64, shown: u64) -> bool
     ensures { result ≡ is_right_kind most kind swept shown }
 {

@@ -7,7 +7,7 @@ use nms_lines::{name_of_part, name_of_sym, number_before, price_before, text_bef
 use nms_quote::{Change, QState, Roster, SideQuote};
 use std::alloc::AllocError;
 
-/// Appends the records of changes, in order. After an error a prefix of them may be there.
+/// Appends the records of changes, in order. After an error a prefix of these records may be there.
 pub fn append_changes(
     out: &mut Vec<u8>,
     roster: &Roster,
@@ -32,7 +32,8 @@ pub fn append_change(out: &mut Vec<u8>, roster: &Roster, change: &Change) -> Res
     out.extend_from_slice(&buf[start..])
 }
 
-/// Writes the fields of a change, which take at most 111 bytes, so that they end at a place. Returns the place at which they start.
+/// Writes the fields of a change, which take at most 111 bytes, so that they end at a place. Returns the place at which they
+/// start.
 fn change_before(buf: &mut [u8], end: usize, roster: &Roster, change: &Change) -> usize
     requires room { 111 ≤ end }
     requires within { end ≤ length buf.old }
@@ -93,7 +94,7 @@ fn side_before(buf: &mut [u8], end: usize, side: &Option<SideQuote>) -> usize
     }
 }
 
-/// The letter of a state.
+/// The letter for the state of a quotation: `A`, `M` or `H`.
 fn letter_of(state: QState) -> &'static str
     ensures letter { result.now ≡ state_letter state }
     ensures short { length result.now ≡ 1 }

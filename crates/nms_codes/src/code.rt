@@ -8,7 +8,7 @@ use crate::matter::Matter;
 /// A code, by letter and number. Each is printed as it is named here, except `E3Rows` and `Usage`.
 #[derive(Clone, Copy, Debug, PartialEq, Eq, PartialOrd, Ord)]
 pub enum Code {
-    /// A1: there are fewer changes than a version has.
+    /// A1: a file has fewer changes than the version that was asked for.
     A1,
     /// B1: out of memory for the board.
     B1,
@@ -18,15 +18,15 @@ pub enum Code {
     C2,
     /// C3: a setup has a key that is not known.
     C3,
-    /// C4: a name does not have its form, or is there twice.
+    /// C4: a name in a setup does not have its form, or occurs twice.
     C4,
-    /// C5: a value does not have its kind.
+    /// C5: a value in a setup does not have its kind.
     C5,
-    /// C6: a number is out of its range.
+    /// C6: a number in a setup is out of its range.
     C6,
-    /// C7: a fee or a rate is over its cap.
+    /// C7: a fee or a rate in a setup is over its cap.
     C7,
-    /// C8: there are too many participants or symbols.
+    /// C8: a setup has too many participants or symbols.
     C8,
     /// C9: out of memory for a setup.
     C9,
@@ -44,7 +44,7 @@ pub enum Code {
     F4,
     /// G2: out of memory for the arguments of the call.
     G2,
-    /// H1: a line is no time.
+    /// H1: a line of a file of times is not the time of a change.
     H1,
     /// H2: a time is before the one above it.
     H2,
@@ -56,19 +56,19 @@ pub enum Code {
     I1,
     /// I2: no row of an import shows a round lot.
     I2,
-    /// I3: times of an import fall against its mapping.
+    /// I3: times of an import fall, though its mapping says that they do not.
     I3,
-    /// I4: the row at the end of an import's file has another count than the rows before it.
+    /// I4: the count at the end of an import's file is not the number of its rows.
     I4,
-    /// I5: no row of an import made anything.
+    /// I5: nothing was imported, because no row is of a symbol of the setup that could be read.
     I5,
-    /// J1: the times are not those of the changes.
+    /// J1: a file of times does not have one time of 15 digits for each change.
     J1,
     /// J2: the changes are not in the order of the mapping.
     J2,
     /// J3: the rows are not in the order of the mapping.
     J3,
-    /// L1: a record is of no kind that is read there.
+    /// L1: a record is of no kind that its file may have.
     L1,
     /// L2: a record does not have the number of fields of its kind.
     L2,
@@ -86,7 +86,7 @@ pub enum Code {
     L8,
     /// L9: a record is of another feed.
     L9,
-    /// L10: there is no such desk.
+    /// L10: a record names a desk that does not exist.
     L10,
     /// L11: a text is not that of a plan.
     L11,

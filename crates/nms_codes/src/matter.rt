@@ -21,12 +21,12 @@ pub enum Matter {
     Output,
     /// Memory, which is no file.
     Memory,
-    /// An import that is doubtful as such.
+    /// An import with a doubtful result.
     Import,
 }
 
 impl Matter {
-    /// The exit status of a call that ends with it, 1 to 7.
+    /// The exit status, 1 to 7, of a call that ends with a code about this matter.
     pub fn status(self) -> u8
         ensures { result ≡ status_of_matter self }
     {

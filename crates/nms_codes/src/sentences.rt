@@ -5,7 +5,8 @@ ghost use Rattle.nms_show.specs.Plain.{is_plain};
 use crate::code::Code;
 
 impl Code {
-    /// The meaning of the code, in a sentence. It is about the argument or the file before it, if there is one.
+    /// The meaning of the code, in a sentence. The sentence is about the argument or the file that is printed before it, if
+    /// any.
     pub fn sentence(self) -> &'static str
         ensures { is_plain result.now ≡ true }
     {

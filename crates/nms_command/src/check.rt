@@ -22,7 +22,7 @@ use std::alloc::Global;
 use std::io::{Read, Write};
 use std::rt::Files;
 
-/// Writes whether the plan of one file is confirmed on its version of the changes of another.
+/// Writes whether the plan in one file is confirmed on the changes in another file, up to the plan's version.
 pub(crate) fn serve_check<T: Files + AllocGlobal, W: Write>(
     rt: &T,
     setup: &Setup,
@@ -41,7 +41,7 @@ pub(crate) fn serve_check<T: Files + AllocGlobal, W: Write>(
     check_text(rt.alloc(), setup, source, &text, answers)
 }
 
-/// Writes whether the plan of a text is confirmed on its version of the changes of a file.
+/// Writes whether the plan in a text is confirmed on the changes in a file, up to the plan's version.
 fn check_text<R: Read + Drop, W: Write>(
     alloc: Global,
     setup: &Setup,
@@ -58,7 +58,7 @@ fn check_text<R: Read + Drop, W: Write>(
     }
 }
 
-/// Writes whether the plan of a text is confirmed on its version of these changes.
+/// Writes whether the plan in a text is confirmed on a list of changes, up to the plan's version.
 fn judge<W: Write>(
     alloc: Global,
     setup: &Setup,
@@ -79,7 +79,7 @@ fn judge<W: Write>(
     }
 }
 
-/// Writes whether a plan is confirmed by its certificate on its version of these changes.
+/// Writes whether a plan is confirmed by its certificate on a list of changes, up to the plan's version.
 fn judge_plan<W: Write>(
     alloc: Global,
     setup: &Setup,
@@ -98,7 +98,7 @@ fn judge_plan<W: Write>(
     tell_finding(answers, finding)
 }
 
-/// Reports what an audit found.
+/// Writes one line with the finding of an audit: the plan is confirmed, or the code of the doubt.
 fn tell_finding<W: Write>(
     answers: &mut W,
     finding: Result<(), AuditFault>,
@@ -116,7 +116,7 @@ fn tell_finding<W: Write>(
     }
 }
 
-/// Reports the code of a doubt. After a breach its own code follows.
+/// Writes one line with the code of a doubt. If the plan breaches a rule, the code of the breach follows.
 fn tell_doubt<W: Write>(answers: &mut W, doubt: Doubt) -> Result<Ending, CommandFault>
     ensures told { IfOk result (λ ends. (ends ≡ Ending.NotConfirmed) × Appends (W.contents answers.old) (W.contents answers.new) (record_text (doubt_record doubt))) }
     ensures cut { IfErr result (CutsShort (λ whole ends. (ends ≡ Ending.NotConfirmed) × Appends (W.contents answers.old) whole (record_text (doubt_record doubt))) (W.contents answers.old) (W.contents answers.new)) }
@@ -129,7 +129,7 @@ fn tell_doubt<W: Write>(answers: &mut W, doubt: Doubt) -> Result<Ending, Command
     }
 }
 
-/// Reports a line, which decides how the request ends.
+/// Writes one line of two parts, and gives the ending of the request that belongs to it.
 fn tell_line<W: Write>(
     answers: &mut W,
     head: &str,

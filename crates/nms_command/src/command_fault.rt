@@ -14,7 +14,7 @@ use nms_words::WordsFault;
 pub enum CommandFault {
     /// The parser refused the arguments.
     Words(WordsFault),
-    /// An argument is not UTF-8, or names nothing, or is no field of an order.
+    /// An argument is not UTF-8, names nothing that exists, or is no field of an order.
     Usage,
     /// A file could not be read.
     Unreadable,
@@ -28,7 +28,7 @@ pub enum CommandFault {
     Changes(ChangesFault),
     /// An order's plan was not written.
     Plan(PlanFault),
-    /// A file of a plan could not be read as one.
+    /// A file that should have a plan could not be read as a plan.
     PlanText(PlanTextFault),
     /// There was no memory for an audit.
     NoAudit,
@@ -59,7 +59,7 @@ impl CommandFault {
         }
     }
 
-    /// The code for the line on standard error.
+    /// The code of the fault, as the line on standard error shows it.
     pub fn code(&self) -> &'static str
         ensures { result.now ≡ code_of self.now }
     {

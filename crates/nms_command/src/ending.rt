@@ -5,14 +5,14 @@ ghost use Rattle.nms_command.specs.Statuses.{status_of_ending};
 /// How a served request ends.
 #[derive(Clone, Copy, PartialEq, Eq)]
 pub enum Ending {
-    /// Everything that was asked for was done. A plan that was asked about is confirmed.
+    /// Everything that was asked for was done. If a plan was to be checked, it is confirmed.
     Done,
     /// A plan was judged and is not confirmed.
     NotConfirmed,
 }
 
 impl Ending {
-    /// The exit status.
+    /// The exit status of the program for this ending.
     pub fn status(self) -> u8
         ensures { result ≡ status_of_ending self }
     {

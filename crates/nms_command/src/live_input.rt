@@ -1,4 +1,4 @@
-//! What a live run is given: the files that the arguments of `live` name.
+//! The input of a live run: the files that the arguments of `live` name.
 ghost use Rattle.std.specs.Prelude.{◌≡◌, ◌≢◌, ◌<◌, ◌≤◌, ◌+◌, ℕ, All, Err, IfErr, IfOk, length};
 ghost use Rattle.nms_fees.specs.Settings.{Settings};
 ghost use Rattle.nms_command.specs.LiveFiles.{AreOrdersOfSome, IsNotGiven, most_feed_bytes};
@@ -12,22 +12,22 @@ use nms_text::ScriptFault;
 use std::io::Read;
 use std::rt::Files;
 
-/// The most bytes of a feed. This product's own rule.
+/// The most bytes that the file of a feed may have. This product's own rule.
 const MOST_FEED_BYTES: u64 = 1_000_000_000;
 
-/// What a live run is given.
+/// The input of a live run, read from its files.
 #[derive(Drop)]
 pub struct LiveInput {
     /// The bytes of each feed's file, in order of letter.
     pub feeds: Vec<Vec<u8>>,
-    /// The orders of the file of orders, in order.
+    /// The orders, in the order in which their file has them.
     pub orders: Vec<DeskOrder>,
 }
 
-/// Reads the files of a live run: the file of orders, and one file for each feed of the setup. If the number of files is
-/// another, they are refused as `usage`.
+/// Reads the files of a live run: the file of orders, and one file for each feed of the setup. Any other number of files is
+/// refused as `usage`.
 ///
-/// The feeds are read before a line of an order is judged.
+/// All feeds are read before any line of an order is judged.
 pub fn read_live_input<T: Files + AllocGlobal>(
     rt: &T,
     setup: &Setup,
@@ -58,7 +58,7 @@ pub fn read_live_input<T: Files + AllocGlobal>(
     with_orders(rt, setup, feeds, orders)
 }
 
-/// The feeds with the orders of a file.
+/// The input of a live run, with feeds that were read already and the orders of a file.
 fn with_orders<T: AllocGlobal, R: Read + Drop>(
     rt: &T,
     setup: &Setup,
@@ -99,7 +99,7 @@ fn read_feeds<T: Files + AllocGlobal>(
     Ok(feeds)
 }
 
-/// The bytes of a feed's file, if there are not too many.
+/// The bytes of a feed's file. A file of more than 1,000,000,000 bytes is refused.
 fn read_feed<T: Files + AllocGlobal>(rt: &T, path: &str) -> Result<Vec<u8>, CommandFault>
     ensures within { IfOk result (λ feed. length feed.items ≤ most_feed_bytes) }
     ensures refused { (settings : Settings) (files : ℕ) → IfErr result (IsNotGiven settings files) }

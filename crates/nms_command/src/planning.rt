@@ -42,7 +42,7 @@ pub(crate) fn serve_plan<T: Files + AllocGlobal, W: Write>(
     }
 }
 
-/// The order that a request asks for, by its arguments after the first and by its options.
+/// The order that a request asks for, by its options and its arguments after the first. `None` if they give no order.
 fn order_asked(setup: &Setup, request: &Request) -> Option<Order>
     ensures asked { IfSome result (λ order. asked_order setup.now (shown request.now) ≡ Some order) }
     ensures there { IfSome result (λ order. order.sym < length setup.now.roster.syms) }

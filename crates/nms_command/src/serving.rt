@@ -46,7 +46,7 @@ pub fn serve<T: Files + AllocGlobal, R: Read, W: Write>(
     }
 }
 
-/// Answers with the help, or with the version. If the writer fails, a prefix was written.
+/// Writes the help or the version. If the writer fails, only the first bytes of it were written.
 pub fn show_help<W: Write>(answers: &mut W, help: &str) -> Result<Ending, CommandFault>
     ensures done { IfOk result (λ ends. ends ≡ Ending.Done) }
     ensures written { OnOk result (Appends (W.contents answers.old) (W.contents answers.new) help.now) }
@@ -84,7 +84,7 @@ fn setup_in(alloc: Global, bytes: &[u8]) -> Result<Setup, CommandFault>
     }
 }
 
-/// Answers the script of an input.
+/// Runs the script of an input, and writes its answers.
 fn serve_script<T: AllocGlobal, R: Read, W: Write>(
     rt: &T,
     setup: &Setup,
@@ -100,7 +100,7 @@ fn serve_script<T: AllocGlobal, R: Read, W: Write>(
     }
 }
 
-/// Reports the symbol after all the changes of a file.
+/// Writes a report of a symbol after all the changes of a file.
 fn serve_report<T: Files + AllocGlobal, W: Write>(
     rt: &T,
     setup: &Setup,

@@ -6,13 +6,13 @@ use nms_fees::Setup;
 /// What the arguments of the command line asked for, before a live run.
 #[derive(Drop)]
 pub enum Step {
-    /// What they ask for was done, so the call ended.
+    /// Everything that the arguments ask for was done, and this is how it ended.
     Ended(Ending),
-    /// They ask for a live run, which is still to be made.
+    /// The arguments ask for a live run, which is still to be made.
     Live {
-        /// The setup that they name.
+        /// The setup under which the live run has to be made.
         setup: Setup,
-        /// What the run is given.
+        /// The texts of the feeds, and the orders.
         input: LiveInput,
     },
 }

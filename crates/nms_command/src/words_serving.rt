@@ -14,8 +14,8 @@ use nms_words::{Request, Sub, WordsFault, read_words};
 use std::io::{Read, Write};
 use std::rt::Files;
 
-/// Does what the arguments ask for, with the script on `input`, or shows the help that they ask for. For a live run it only
-/// reads the setup and the files, and gives them.
+/// Does what the arguments ask for, with the script on `input`, or shows the help that they ask for. For a live run it only reads
+/// the setup and the files, and returns them.
 ///
 /// If it fails, the first records of a script were answered. For anything else nothing was written, or a prefix if the writer
 /// failed.
@@ -37,7 +37,7 @@ pub fn serve_words<T: Files + AllocGlobal, R: Read, W: Write>(
     }
 }
 
-/// Serves a request under the setup that it names, up to a live run.
+/// Serves a request under the setup that it names. It only prepares a live run.
 fn serve_request<T: Files + AllocGlobal, R: Read, W: Write>(
     rt: &T,
     request: &Request,
@@ -51,7 +51,7 @@ fn serve_request<T: Files + AllocGlobal, R: Read, W: Write>(
     serve_under(rt, setup, request, input, answers)
 }
 
-/// Serves a request under a setup, up to a live run.
+/// Serves a request under a given setup. It only prepares a live run.
 fn serve_under<T: Files + AllocGlobal, R: Read, W: Write>(
     rt: &T,
     setup: Setup,

@@ -26,21 +26,22 @@ pub(crate) const MOST_ROWS: u64 = 1_000_000_000_000;
 /// How a vendor's rows are read. The meanings are borrowed from the mapping.
 #[derive(Drop)]
 pub struct Vendor<'a> {
-    /// The columns, with the venue of the best bid as the participant.
+    /// The columns of a row's best bid, with the bid's venue as the participant.
     pub bids: Columns,
-    /// The columns, with the venue of the best offer as the participant.
+    /// The columns of a row's best offer, with the offer's venue as the participant.
     pub offers: Columns,
-    /// The meanings of texts.
+    /// The meanings that the mapping gives to the texts of a file.
     pub meanings: &'a Meanings,
     /// The order of the rows, and of the changes.
     pub order: Order,
 }
 
-/// Compares the rows that a reader still has with the best bids and offers of a tape. Each is compared on the version at its
-/// time, and counted by its finding; also by its symbol and its hour, in the sums. The first 100 that are not equal are shown.
+/// Compares the remaining rows of a vendor's file with the best bids and offers of a tape, each on the version at its time.
+/// Each row is counted by its finding, and also by its symbol and its hour. The first 100 rows that are not equal are shown, or
+/// all of them if the caller asks for all.
 ///
-/// `RowsFall` comes if a row is before an earlier one, in the vendor's order. After an error only the rows before it were
-/// shown. The writer is not flushed.
+/// The fault `RowsFall` is returned if a row is before an earlier one, in the vendor's order. After a fault only the rows
+/// before the faulty one were shown. The writer is not flushed.
 pub fn compare_rows<R: Read, W: Write>(
     alloc: Global,
     vendor: &Vendor<'_>,
@@ -69,7 +70,8 @@ pub fn compare_rows<R: Read, W: Write>(
     Err(CompareFault::TooLong)
 }
 
-/// The columns in which a refused row is shown: those of the offer, if the roster has the bid's venue.
+/// The columns by which a refused row is explained. They are those of the offer if the roster has the bid's venue, else those
+/// of the bid.
 fn columns_refused<'x>(vendor: &'x Vendor<'_>, roster: &Roster, row: &ByteRecord) -> &'x Columns {
     let word = vendor.bids.participant.text(row);
     match name_of(vendor.meanings, word) {
@@ -78,7 +80,8 @@ fn columns_refused<'x>(vendor: &'x Vendor<'_>, roster: &Roster, row: &ByteRecord
     }
 }
 
-/// The finding on a row, on the version at its time.
+/// Compares one row of a vendor's file on the version at its time. Returns its finding, or the cause why it has no national
+/// best.
 fn find_row<W: Write>(
     vendor: &Vendor<'_>,
     row: &ByteRecord,

@@ -14,22 +14,22 @@ use nms_show::{Form, Item, ShowFault, write_line, write_object};
 use std::alloc::Global;
 use std::io::Write;
 
-/// How many rows had each finding.
+/// The number of rows with each finding, and of those that were refused or skipped.
 #[derive(Clone, Copy, PartialEq, Eq)]
 pub struct Counts {
-    /// Nothing differs in these rows.
+    /// The number of rows in which nothing differs.
     pub equal: u64,
-    /// A price differs in these rows.
+    /// The number of rows in which a price differs, or in which only the vendor or only the tape has a side.
     pub other_price: u64,
-    /// A displayed size differs in these rows.
+    /// The number of rows with the same prices, but with another displayed size.
     pub other_size: u64,
-    /// A venue differs in these rows.
+    /// The number of rows with the same prices and sizes, but with another venue.
     pub other_venue: u64,
-    /// Only one of the two has a quotation in these rows.
+    /// The number of rows in which only the vendor or only the tape has a quotation.
     pub no_counterpart: u64,
-    /// These rows are malformed.
+    /// The number of rows that were refused, because no national best can be read from them.
     pub refused: u64,
-    /// The mapping skips these rows.
+    /// The number of rows that the mapping skips.
     pub skipped: u64,
 }
 
@@ -89,7 +89,7 @@ impl Counts {
         }
     }
 
-    /// Whether a row was refused, or differs from ours.
+    /// Whether any row was refused, or differs from the national best of the tape.
     pub fn has_doubts(&self) -> bool
         ensures { result ≡ has_doubts self.now }
     {
@@ -120,8 +120,8 @@ fn skips(cause: Cause) -> bool
     }
 }
 
-/// Writes the counts: a line for each finding, and last the sum. If the sum is more than 2^64 - 1, `TooLong` comes after the
-/// lines that still fit. The counts of 1,000,000,000,000 rows always fit.
+/// Writes the counts: a line for each finding, and last the sum. If the sum is more than 2^64 - 1, the fault `TooLong` is
+/// returned after the lines that still fit. The counts of 1,000,000,000,000 rows always fit.
 pub fn write_counts<W: Write>(out: &mut W, counts: &Counts) -> Result<(), CompareFault>
     ensures safe { Writes IsSafe (W.contents out.old) (W.contents out.new) result }
     ensures whole { OnOk result (rows_in counts.now < 2 ^ 64) }
@@ -161,7 +161,7 @@ pub fn write_counts_object<W: Write>(
     Ok(())
 }
 
-/// Writes a line for each number, and returns their sum.
+/// Writes a line for each count, with its words, and returns the sum of the counts.
 fn write_table<W: Write>(out: &mut W, table: &[(u64, &'static str)]) -> Result<u64, CompareFault>
     requires own { list_all (λ row. is_plain row.1.now) table.now ≡ true }
     ensures safe { Writes IsSafe (W.contents out.old) (W.contents out.new) result }
@@ -176,7 +176,7 @@ fn write_table<W: Write>(out: &mut W, table: &[(u64, &'static str)]) -> Result<u
     Ok(rows)
 }
 
-/// Writes a line for a number, and returns the sum of the numbers up to it.
+/// Writes a line for one count, with its words, and returns the sum of the counts up to it.
 fn write_row<W: Write>(
     out: &mut W,
     before: u64,
@@ -198,7 +198,7 @@ fn write_row<W: Write>(
     }
 }
 
-/// Writes a line.
+/// Writes a line of text without colours.
 #[tactic(auto, using(nms_show::proofs::Offered::plain_items))]
 fn line<W: Write>(out: &mut W, items: &[Item<'_>]) -> Result<(), CompareFault>
     requires own { list_all is_own_plain items.now ≡ true }

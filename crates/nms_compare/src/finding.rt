@@ -11,17 +11,17 @@ use nms_stream::Quoted;
 pub enum Finding {
     /// Prices, displayed sizes and venues are the same on both sides.
     Equal,
-    /// A price differs, or only one of the two has that side.
+    /// A price differs, or only the vendor or only the tape has a side.
     OtherPrice,
     /// The prices are the same, but a displayed size differs.
     OtherSize,
     /// Prices and sizes are the same, but a venue differs.
     OtherVenue,
-    /// One of the two has neither a bid nor an offer.
+    /// Either the vendor or the tape has neither a bid nor an offer, but the other one has a quotation.
     NoCounterpart,
 }
 
-/// The finding on a vendor's national best and ours.
+/// The finding on a vendor's national best and that of the tape.
 pub fn find_between(ours: &Quoted, theirs: &National) -> Finding
     ensures { result ≡ finding_of ours.now theirs.now }
 {
@@ -40,7 +40,7 @@ pub fn find_between(ours: &Quoted, theirs: &National) -> Finding
     Finding::Equal
 }
 
-/// Whether there is no row on either side.
+/// Whether the tape has neither a bid nor an offer.
 fn is_nothing(bid: &Option<Row>, offer: &Option<Row>) -> bool
     ensures { result ≡ is_nothing bid.now offer.now }
 {
@@ -54,7 +54,7 @@ fn is_none(bid: &Option<Best>, offer: &Option<Best>) -> bool
     bid.is_none() && offer.is_none()
 }
 
-/// Whether a side has the same price in both.
+/// Whether the vendor and the tape have the same price on a side, or both have no quotation there.
 fn same_price(ours: &Option<Row>, theirs: &Option<Best>) -> bool
     ensures { result ≡ agrees (λ row best. row.price == best.price) ours.now theirs.now }
 {
@@ -65,7 +65,7 @@ fn same_price(ours: &Option<Row>, theirs: &Option<Best>) -> bool
     }
 }
 
-/// Whether a side has the same displayed size in both.
+/// Whether the vendor and the tape have the same displayed size on a side, or both have no quotation there.
 fn same_size(ours: &Option<Row>, theirs: &Option<Best>) -> bool
     ensures { result ≡ agrees (λ row best. row.size == best.shares) ours.now theirs.now }
 {
@@ -76,7 +76,7 @@ fn same_size(ours: &Option<Row>, theirs: &Option<Best>) -> bool
     }
 }
 
-/// Whether a side is quoted by the same venue in both.
+/// Whether the vendor and the tape have the same venue on a side, or both have no quotation there.
 fn same_venue(ours: &Option<Row>, theirs: &Option<Best>) -> bool
     ensures { result ≡ agrees (λ row best. row.part == best.part) ours.now theirs.now }
 {

@@ -10,7 +10,8 @@ use nms_stream::Tape;
 use nms_units::parse_digits;
 use std::alloc::Global;
 
-/// One more than the greatest time. A symbol's part of a key counts in these.
+/// One more than the greatest time of 15 digits. In an order by symbol, a key is the symbol's place times this number, plus the
+/// time.
 pub(crate) const TIMES: u64 = 1_000_000_000_000_000;
 
 /// The changes of a tape, each with its place in the order of a vendor's file.
@@ -18,14 +19,15 @@ pub(crate) const TIMES: u64 = 1_000_000_000_000_000;
 pub struct Keyed<'a> {
     /// The tape.
     pub tape: &'a Tape<'a>,
-    /// The place of each change.
+    /// The key of each change: a number that gives its place in the order of the vendor's file.
     pub keys: Vec<u64>,
     pub ghost each: { length keys.items ≡ length tape.now.changes.items },
 }
 
 /// The places of the changes of a tape. Their times are the lines of a text, of 15 digits and a line feed each.
 ///
-/// `NotTheTimes` comes if the text does not have one such line for each change, `ChangesFall` if a change is before an earlier one.
+/// The fault `NotTheTimes` is returned if the text does not have one such line for each change. The fault `ChangesFall` is
+/// returned if a change is before an earlier one.
 pub fn keys_of<'a>(
     alloc: Global,
     order: Order,
@@ -58,7 +60,8 @@ pub fn keys_of<'a>(
     }
 }
 
-/// The place of a symbol's item in the order of a file, at a time of at most 15 digits.
+/// The key of a change or a row of this symbol at this time, which has at most 15 digits. A lower key comes first in the order
+/// of the file.
 pub fn key_of(order: Order, place: u16, time: u64) -> u64
     requires place { place < MOST_SYMBOLS }
     requires time { time < 1000000000000000 }
@@ -70,7 +73,7 @@ pub fn key_of(order: Order, place: u16, time: u64) -> u64
     }
 }
 
-/// The place of a change's symbol; 0 for a withdrawal.
+/// The place on the roster of the symbol of a change; 0 for a withdrawal, which has no symbol.
 fn place_of(change: &Change) -> u16
     ensures place { result ≡ place_of change.now }
     ensures within { result < MOST_SYMBOLS }

@@ -26,11 +26,11 @@ pub struct Best {
 pub struct National {
     /// The time of day as digits, `HHMMSSnnnnnnnnn`.
     pub time: u64,
-    /// The best bid; `None` if there is no bid.
+    /// The symbol of which this is the national best.
     pub sym: Sym,
-    /// The best offer; `None` if there is no offer.
+    /// The best bid; `None` if there is no bid.
     pub bid: Option<Best>,
-    /// The best offer, `None` if there is none.
+    /// The best offer; `None` if there is no offer.
     pub offer: Option<Best>,
 }
 
@@ -62,7 +62,7 @@ pub fn read_national(
     }
 }
 
-/// The bid of one quotation with the offer of another one.
+/// A national best with the bid of one quotation and the offer of another one; `None` if the first change is no quotation.
 fn national_in(time: u64, bids: &Change, offers: &Change) -> Option<National>
     ensures national { result ≡ national_in time bids.now offers.now }
     ensures there { (sizes : Sizes) → holds sizes bids.now ≡ true → IfSome result (λ theirs. theirs.sym < length sizes.lots) }

@@ -47,7 +47,7 @@ pub fn national_mapping_of(alloc: Global, document: &Table) -> Result<NationalMa
 }
 
 impl NationalMapping {
-    /// How the file is laid out.
+    /// How the vendor's file is laid out.
     pub fn file(&self) -> FileForm
         ensures { result ≡ self.now.bids.file }
     {
@@ -61,8 +61,8 @@ impl NationalMapping {
         self.bids.order
     }
 
-    /// How the rows of a file are read if its first row is `names`, which is empty if there is no header. `NoColumn` is the
-    /// first key of the table `column` whose name is not in that row.
+    /// How the rows of a file are read if its first row is `names`, which is empty if there is no header. The fault `NoColumn`
+    /// gives the first key of the table `column` whose name is not in that row.
     pub fn vendor(&self, alloc: Global, names: &ByteRecord) -> Result<Vendor<'_>, MapFault<'static>>
         ensures bids { IfOk result (λ vendor. ArePlaced self.now.bids.sources (fields_of names.now) vendor.bids) }
         ensures offers { IfOk result (λ vendor. ArePlaced self.now.offers.sources (fields_of names.now) vendor.offers) }

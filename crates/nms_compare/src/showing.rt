@@ -1,4 +1,5 @@
-//! What is shown about rows that are not equal: the line, the version, the finding, theirs and ours.
+//! What is shown about rows that are not equal: the line, the version, the finding, the vendor's national best and that of the
+//! tape.
 ghost use Rattle.std.specs.Prelude.{◌≡◌};
 
 use crate::MOST_SHOWN;
@@ -24,9 +25,9 @@ use std::marker::Model;
 pub struct Showing {
     /// The allocator.
     pub alloc: Global,
-    /// As lines for people, or as JSON.
+    /// The form in which rows are shown: lines for people, or JSON.
     pub form: Form,
-    /// Whether all are shown; else the first 100.
+    /// Whether all rows that are not equal are shown; if not, only the first 100.
     pub all: bool,
 }
 
@@ -54,7 +55,8 @@ impl<'a, W: Write> Shown<'a, W> {
     ghost use Rattle.nms_compare.specs.Summed.{no_sums, with_judged};
     ghost use Rattle.std.specs.Prelude.{IfOk, OnOk};
 
-    /// What shows the rows of a file of this name, of this number of symbols, on a writer. Nothing is written yet.
+    /// A place where the rows of a file of this name are shown on a writer, for a roster with this number of symbols. Nothing is
+    /// written yet.
     pub fn new(
         showing: Showing,
         out: &'a mut W,
@@ -168,7 +170,7 @@ impl<'a, W: Write> Shown<'a, W> {
     }
 }
 
-/// Shows a row, its finding, and its sides: theirs and ours.
+/// Shows a row as a JSON object: its line, its version, its finding, the vendor's sides and those of the tape.
 fn show_object<'x, W: Write>(
     alloc: Global,
     out: &mut W,
@@ -242,7 +244,7 @@ fn show_head<'x, W: Write>(
     Ok(())
 }
 
-/// Shows a bid and an offer.
+/// Shows a bid and an offer on one line, after a text that says whose they are.
 fn show_sides<'x, W: Write>(
     out: &mut W,
     before: &'x str,
@@ -271,7 +273,7 @@ fn show_sides<'x, W: Write>(
     Ok(())
 }
 
-/// A side as it is shown.
+/// A side of a national best as it is shown: the venue, the price and the displayed size.
 #[derive(Clone, Copy)]
 struct Told {
     part: Part,
@@ -295,7 +297,8 @@ fn row_told(row: &Option<Row>) -> Option<Told> {
     })
 }
 
-/// The items for the venue, the price and the size of a side, or a word for none; and what separates them.
+/// The items for the venue, the price and the size of a side, and the space between them. For a side without a quotation there
+/// is only the word `none`.
 fn items_of<'x>(
     roster: &'x Roster,
     told: &Option<Told>,
@@ -311,7 +314,7 @@ fn items_of<'x>(
     }
 }
 
-/// The text of a finding; empty for one that is not shown.
+/// The words for a finding, such as `other price`. They are empty if the row is equal, because it is not shown.
 fn word_of(finding: Finding) -> &'static str {
     match finding {
         Finding::Equal => "",

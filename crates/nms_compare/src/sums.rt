@@ -10,12 +10,12 @@ use std::alloc::{AllocError, Global};
 use std::io::Write;
 use std::marker::Model;
 
-/// The hours of a day.
+/// The number of hours in a day.
 pub(crate) const HOURS: usize = 24;
-/// How many values the minutes, seconds and nanoseconds of a time `HHMMSSnnnnnnnnn` have.
+/// The hour of a time is the number `HHMMSSnnnnnnnnn` divided by this one.
 pub(crate) const HOUR: u64 = 10_000_000_000_000;
 
-/// How many rows had each finding.
+/// The number of compared rows with each finding, for one symbol or for one hour.
 #[derive(Clone, Copy)]
 pub(crate) struct Found {
     equal: u64,
@@ -25,11 +25,11 @@ pub(crate) struct Found {
     no_counterpart: u64,
 }
 
-/// How many rows had each finding, by symbol and by hour.
+/// The number of compared rows with each finding, by symbol and by hour.
 #[derive(Drop)]
 pub struct Sums {
     alloc: Global,
-    /// By the symbol's place on the roster.
+    /// The numbers for each symbol, at the symbol's place on the roster.
     symbols: Vec<Found>,
     hours: Vec<Found>,
 }
@@ -43,7 +43,7 @@ impl Model for Sums {
 }
 
 impl Found {
-    /// With one row more. `None`: there are too many.
+    /// The numbers with one more row. Returns `None` only if a number becomes too large.
     fn with(mut self, finding: Finding) -> Option<Found>
         ensures { IfSome result (λ found. found ≡ with_one self finding) }
     {
@@ -57,7 +57,7 @@ impl Found {
         Some(self)
     }
 
-    /// Whether a row differs.
+    /// Whether any counted row differs from the national best of the tape.
     fn differs(&self) -> bool {
         self.other_price > 0
             || self.other_size > 0
@@ -70,7 +70,7 @@ impl Sums {
     ghost use Rattle.std.specs.Prelude.{◌≡◌, IfOk, OnOk};
     ghost use Rattle.nms_compare.specs.Summed.{no_sums, with_judged};
 
-    /// Of no rows, with room for n symbols.
+    /// The numbers before the first row, for a roster with this number of symbols.
     pub(crate) fn new(alloc: Global, symbols: usize) -> Result<Sums, AllocError>
         ensures { IfOk result (λ sums. sums ≡ no_sums symbols) }
     {
@@ -91,7 +91,7 @@ impl Sums {
         Ok(sums)
     }
 
-    /// Counts a row of a symbol at a time.
+    /// Counts a row for its symbol and for the hour of its time.
     pub(crate) fn count(
         &mut self,
         sym: Sym,
@@ -136,7 +136,7 @@ impl Sums {
     }
 }
 
-/// Counts a row at a place.
+/// Counts a row at this place of a list, if the list has such a place.
 fn count_at(all: &mut [Found], place: usize, finding: Finding) -> Result<(), CompareFault>
     ensures { OnOk result (all.new ≡ with_row all.old place finding) }
 {

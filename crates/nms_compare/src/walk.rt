@@ -23,7 +23,7 @@ pub(crate) struct Walk<'a> {
     ghost at: { replay.board.applied ≡ version_by keys.now key },
 }
 
-/// Moves along the changes up to a key, before any row is read.
+/// A board that has moved over the changes whose key is 0, before any row is read.
 pub(crate) fn open_walk<'a>(alloc: Global, keyed: &'a Keyed<'a>) -> Result<Walk<'a>, BoardFault>
     ensures tape { IfOk result (λ walk. walk.replay.tape.now ≡ keyed.now.tape.now) }
     ensures keys { IfOk result (λ walk. walk.keys.now ≡ keyed.now.keys.items) }
@@ -37,7 +37,7 @@ pub(crate) fn open_walk<'a>(alloc: Global, keyed: &'a Keyed<'a>) -> Result<Walk<
     })
 }
 
-/// Moves on up to a later key.
+/// Moves the board on, over all changes whose keys are no later than the given key.
 pub(crate) fn walk_to(walk: &mut Walk<'_>, key: u64)
     requires { walk.old.key ≤ key }
     ensures tape { walk.new.replay.tape ≡ walk.old.replay.tape }
@@ -51,7 +51,7 @@ pub(crate) fn walk_to(walk: &mut Walk<'_>, key: u64)
     walk.key = key;
 }
 
-/// How many of the first keys are no later than the given key.
+/// The number of keys at the beginning of a list that are no later than the given key.
 fn count_not_later(keys: &[u64], key: u64) -> usize
     ensures count { result ≡ version_by keys.now key }
     ensures within { result ≤ length keys.now }
@@ -62,7 +62,7 @@ fn count_not_later(keys: &[u64], key: u64) -> usize
     }
 }
 
-/// The place of the first key that is later than a key.
+/// The place of the first key in a list that is later than the given key.
 fn first_later(keys: &[u64], key: u64) -> Option<usize>
     ensures place { result ≡ position (λ k. nat_lt key k) keys.now }
     ensures within { IfSome result (λ place. place < length keys.now) }
@@ -70,7 +70,7 @@ fn first_later(keys: &[u64], key: u64) -> Option<usize>
     keys.iter().position(|each| *each > key)
 }
 
-/// The finding on a national best on the version of the walk.
+/// The finding on a vendor's national best, on the version to which the board has moved.
 pub(crate) fn find_on(walk: &Walk<'_>, theirs: &National) -> Finding
     requires { theirs.now.sym < length (sizes_in walk.now.replay.tape.now).lots }
     ensures { result ≡ finding_of (quoted_at (sizes_in walk.now.replay.tape.now)

@@ -1,4 +1,5 @@
-//! Each participant's quotations along the changes, as JSON objects. After each change, those that it may alter are written.
+//! Each participant's quotations along the changes, as JSON objects. After each change, the quotations that it may alter are
+//! written.
 ghost use Rattle.std.specs.Prelude.{◌≡◌, ◌<◌, ◌≤◌, IfErr, false, length, true};
 ghost use Rattle.std.specs.List.{list_all};
 ghost use Rattle.nms_quote.specs.Roster.{holds};
@@ -18,16 +19,16 @@ use nms_times::{TimeOfDay, Times};
 use std::alloc::Global;
 use std::io::Write;
 
-/// How many members an object has if it has a time.
+/// The number of members of the JSON object of a participant's quotations, if it has a time.
 const MEMBERS: usize = 12;
 
-/// The symbols whose quotations are written, and the times that go with them.
+/// The tape whose quotations are written, the symbols that are wanted, and the times of the versions.
 #[derive(Clone, Copy)]
 pub(crate) struct Wanted<'a> {
     pub(crate) alloc: Global,
     pub(crate) tape: &'a Tape<'a>,
     pub(crate) times: Option<&'a Times>,
-    /// The symbol; without one all symbols are written.
+    /// The only symbol whose quotations are written; `None` for all symbols.
     pub(crate) sym: Option<Sym>,
 }
 
@@ -59,7 +60,7 @@ pub(crate) fn write_boards<W: Write>(
     Ok(())
 }
 
-/// Writes the quotations that the last change of a board may alter. A withdrawal may alter some in every symbol.
+/// Writes the quotations that a change may alter. A participant's withdrawal may alter its quotations in every symbol.
 fn write_change<W: Write>(
     wanted: &Wanted<'_>,
     board: &Boards,
@@ -95,7 +96,7 @@ fn write_symbols<W: Write>(
     Ok(())
 }
 
-/// Whether a symbol is asked for. It is if it is the only one, or if all are.
+/// Writes the quotations in one symbol that a change may alter, if that symbol is wanted.
 fn write_symbol<W: Write>(
     wanted: &Wanted<'_>,
     board: &Boards,
@@ -118,7 +119,7 @@ fn write_symbol<W: Write>(
     }
 }
 
-/// Whether a symbol is asked for: it is the one, or all are.
+/// Whether a symbol is wanted: it is the one requested, or all symbols are wanted.
 fn is_asked(asked: &Option<Sym>, sym: Sym) -> bool {
     match asked {
         Some(one) => *one == sym,
@@ -172,7 +173,7 @@ fn time_in(times: Option<&Times>, version: u64) -> Option<TimeOfDay> {
     times?.time_of(version)
 }
 
-/// Writes the first `shown` members of the object of a quotation.
+/// Writes a participant's quotations as a JSON object. The time is its last member, which is left out if there is none.
 fn write_quotation<W: Write>(
     wanted: &Wanted<'_>,
     quotation: &Quotation,
@@ -187,7 +188,7 @@ fn write_quotation<W: Write>(
     write_object(wanted.alloc, answers, &members[..shown])
 }
 
-/// The members of the object of a quotation, with a time as the last.
+/// The members of the JSON object of a participant's quotations. The last member is the time.
 fn members_of<'a>(
     roster: &'a Roster,
     quotation: &Quotation,
@@ -238,7 +239,7 @@ fn shares_of(row: &Option<Row>) -> Item<'static>
     }
 }
 
-/// The receipt of a side, if it has a quotation.
+/// The receipt of a side: the version from which it has its present price and size. It is absent without a quotation.
 fn receipt_of(row: &Option<Row>) -> Item<'static>
     ensures { is_own_plain result ≡ true }
 {

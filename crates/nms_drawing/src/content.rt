@@ -10,7 +10,7 @@ use nms_quote::{Roster, Sym};
 use nms_trades::{Execution, Finding};
 use std::alloc::{AllocError, Global};
 
-/// The days of a page of one symbol.
+/// For each symbol of the roster, its day on the page of one symbol: day 0 for that symbol, none for all others.
 pub(crate) fn days_of_symbol(
     alloc: Global,
     roster: &Roster,
@@ -25,7 +25,7 @@ pub(crate) fn days_of_symbol(
     Ok(days)
 }
 
-/// The only day, if a place of the roster is that of its symbol.
+/// The day of the roster's symbol at a place, on the page of one symbol: day 0 if it is that symbol, else none.
 fn day_if_same(sym: Sym, place: usize) -> Option<u64>
     ensures { result ≡ day_if_same sym place }
 {
@@ -46,7 +46,7 @@ pub(crate) fn executions_of<'a>(judged: Option<&'a Judged>) -> &'a [Execution]
     }
 }
 
-/// What was found about the executions.
+/// The findings about the executions of a file, in the same order as the executions; none if there is no file.
 pub(crate) fn findings_of<'a>(judged: Option<&'a Judged>) -> &'a [Option<Finding>]
     ensures { result.now ≡ found_of (option_copied judged.entry) }
 {
@@ -56,7 +56,7 @@ pub(crate) fn findings_of<'a>(judged: Option<&'a Judged>) -> &'a [Option<Finding
     }
 }
 
-/// The records that are refused, and the executions that other shards judge.
+/// The number of refused records of a file, and the number of its executions that other shards judge.
 pub(crate) fn asides_of(judged: Option<&Judged>) -> [u64; 2] {
     match judged {
         Some(judged) => [
@@ -78,10 +78,10 @@ fn others_in(executions: &[Execution]) -> u64 {
     others
 }
 
-/// The symbols of executions.
+/// The symbols whose days are on the page of a file of executions.
 #[derive(Drop)]
 pub(crate) struct Traded {
-    /// The day of each symbol of the roster, if it has one.
+    /// For each symbol of the roster, the number of its day on the page; `None` if the page does not show it.
     pub(crate) days: Vec<Option<u64>>,
     /// The symbols that have a day, in the order of the days.
     pub(crate) symbols: Vec<Sym>,
@@ -102,7 +102,7 @@ pub(crate) fn traded_in(
     number_days(alloc, &marks)
 }
 
-/// Which symbols have a day.
+/// For each symbol of the roster, whether the page shows its day.
 fn marks_of(
     alloc: Global,
     symbols: usize,
@@ -135,7 +135,7 @@ fn mark_traded(marks: &mut [bool], executions: &[Execution])
     }
 }
 
-/// Numbers the days of the symbols that are marked.
+/// Gives a day to each symbol that is marked. The days are numbered from 0, in the order of the roster.
 fn number_days(alloc: Global, marks: &[bool]) -> Result<Traded, AllocError>
     requires { length marks.now ≤ MOST_SYMBOLS }
     ensures days { IfOk result (λ traded. traded.days.items ≡ days_among (length marks.now) (λ sym. slice_index_or marks.now sym false)) }
@@ -152,7 +152,7 @@ fn number_days(alloc: Global, marks: &[bool]) -> Result<Traded, AllocError>
     Ok(traded)
 }
 
-/// Adds the day of a symbol, if it has one.
+/// Adds the next symbol of the roster. It gets the next free day if it is marked, else none.
 fn add_day(traded: &mut Traded, sym: Sym, marks: &[bool]) -> Result<(), AllocError>
     requires { sym < length marks.now }
     ensures days { OnOk result (traded.new.days.items ≡ traded.old.days.items

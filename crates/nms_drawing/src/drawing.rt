@@ -36,7 +36,7 @@ pub struct Frame<'a> {
     pub opening: u64,
     /// The time at which the page begins, if one was given. Executions before it are not shown.
     pub since: Option<TimeOfDay>,
-    /// The time at which it ends, if one was given. Executions after it are not shown.
+    /// The time at which the page ends, if one was given. Executions after it are not shown.
     pub until: Option<TimeOfDay>,
     /// Whether the page has only best quotations, and no boards.
     pub bests: bool,
@@ -55,9 +55,9 @@ pub struct About<'a> {
 /// plan of a text on its version, with its verdict and the quotations that it passed over. A plan on another symbol, or on a
 /// version that is not shown, is named and not shown.
 ///
-/// `VersionBeyondTape` if the file has fewer changes than the versions that are shown. `Times` if the number of times is
-/// another, or they fall between those versions. After a fault of the changes, of the times or of the plan's text nothing is
-/// written. The page is not flushed.
+/// `VersionBeyondTape` if the file has fewer changes than the versions that are shown. `Times` if there is not one time for
+/// each change, or if the times fall between the shown versions. After a fault of the changes, of the times or of the plan's
+/// text nothing is written. The page is not flushed.
 pub fn draw_changes<R: Read + Drop, W: Write>(
     alloc: Global,
     setup: &Setup,
@@ -82,7 +82,7 @@ pub fn draw_changes<R: Read + Drop, W: Write>(
     }
 }
 
-/// Writes the page of a symbol's day as `draw_changes` does, with executions of that symbol if there are any.
+/// Writes the page of a symbol's day along a tape, with a plan and with the executions of that symbol, if any are given.
 pub(crate) fn draw_day<W: Write>(
     alloc: Global,
     tape: &Tape<'_>,
@@ -212,7 +212,7 @@ fn until_of(frame: &Frame<'_>) -> u64
     }
 }
 
-/// Writes the page that a window shows.
+/// Writes the page of a symbol between two versions, the window, with a plan and with executions that were judged.
 fn draw_window<W: Write>(
     alloc: Global,
     tape: &Tape<'_>,
@@ -276,7 +276,7 @@ impl PlanState {
         matches!(self, PlanState::Shown)
     }
 
-    /// A sentence about the plan.
+    /// Why the page does not show the plan, in words. The text is empty if the plan is shown, or if there is none.
     fn sentence(self) -> &'static str {
         match self {
             PlanState::Nothing | PlanState::Shown => "",
@@ -287,7 +287,7 @@ impl PlanState {
     }
 }
 
-/// Whether a page shows a plan.
+/// Whether a page shows a plan, and if it does not, why.
 fn state_of(plan: Option<(&Plan, &Said)>, window: &Window<'_>, sym: Sym) -> PlanState
     ensures { is_shown_state result
         ≡ is_some (shown_plan window.now sym (option_map (λ given. (given.0.now, given.1.now)) plan.entry)) }
@@ -316,7 +316,7 @@ fn pairs_of<'a>(
     }
 }
 
-/// Adds the pairs.
+/// Adds the pairs that say what a page was made from, and a pair about a plan that is not shown.
 fn add_pairs<'a>(
     pairs: &mut Vec<&'a [u8]>,
     about: &About<'a>,

@@ -23,7 +23,7 @@ pub enum DrawingFault {
     VersionBeyondTape,
     /// L11 or L12: the text is no plan, or out of memory. Nothing was written.
     Plan(PlanTextFault),
-    /// H3: the number of times is not that of the changes. Nothing was written.
+    /// H2 or H3: the times fall, or their number is not that of the changes. Nothing was written.
     Times(TimesFault),
     /// E2: the writer failed. A prefix of the answer was written.
     WriteFault,

@@ -4,7 +4,7 @@ use std::alloc::Global;
 use std::io::Write;
 use std::str;
 
-/// The columns of a line, and whether each is a number.
+/// The columns of a line of the stream, and whether each has a number.
 const COLUMNS: [(&str, bool); 9] = [
     ("version", true),
     ("symbol", false),
@@ -17,7 +17,7 @@ const COLUMNS: [(&str, bool); 9] = [
     ("offer_shares", true),
 ];
 
-/// Writes the object of a line, with a time if one is given.
+/// Writes a line of the stream as a JSON object, with a time if one is given.
 pub(crate) fn write_fields<W: Write>(
     alloc: Global,
     answers: &mut W,
@@ -30,7 +30,7 @@ pub(crate) fn write_fields<W: Write>(
     write_object(alloc, answers, &members[..shown])
 }
 
-/// The fields of a line, each with its column, and a time at the end.
+/// The members of the JSON object of a line: each field under the name of its column, and the time at the end.
 fn members_of<'a>(line: &'a [u8], time: &'a [u8]) -> [(&'static str, Item<'a>); 11] {
     let mut members = [("", Item::Absent); 11];
     members[0] = ("what", Item::Text("line"));
@@ -53,7 +53,7 @@ pub(crate) fn field_of(line: &[u8]) -> (&[u8], &[u8]) {
     }
 }
 
-/// A field as its column has it; `null` if it is empty.
+/// A field as a number or as a text, whichever its column has; `null` if it is empty.
 fn item_in(field: &[u8], is_number: bool) -> Item<'_> {
     if is_number {
         number_in(field)
@@ -71,7 +71,7 @@ fn text_in(field: &[u8]) -> Item<'_> {
     }
 }
 
-/// A field as a number; `null` if it is empty.
+/// A field as a number; `null` if it is empty or is not a number.
 fn number_in(field: &[u8]) -> Item<'_> {
     match str::from_utf8(field) {
         Ok(text) => match text.parse::<u64>() {

@@ -21,7 +21,7 @@ use std::io::{Read, Write};
 /// Writes the opening changes of version n, the first n changes of a file, as a file of changes. A new board that takes them
 /// shows what the version shows, with new receipts in the same order.
 ///
-/// `VersionBeyondTape` if the file has fewer changes; then nothing is written. It is not flushed.
+/// `VersionBeyondTape` if the file has fewer changes; then nothing is written. The output is not flushed.
 pub fn write_opening<R: Read + Drop, W: Write>(
     alloc: Global,
     setup: &Setup,
@@ -43,7 +43,7 @@ pub fn write_opening<R: Read + Drop, W: Write>(
     }
 }
 
-/// The opening changes of a board, a record each.
+/// The text of the opening changes of a board, with one record for each change.
 fn opening_text(alloc: Global, roster: &Roster, board: &Boards) -> Result<Vec<u8>, AllocError>
     ensures { IfOk result (λ text. (changes : List Change) × Opens board.now changes
         × (text.items ≡ changes_text roster.now changes)) }

@@ -40,7 +40,7 @@ pub(crate) struct Content<'a> {
     /// Executions, each with what was found about it.
     pub(crate) executions: &'a [Execution],
     pub(crate) findings: &'a [Option<Finding>],
-    /// The records that are refused, and the executions that other shards judge. Empty without executions.
+    /// The number of refused records, and the number of executions that other shards judge. Both are 0 without executions.
     pub(crate) aside: &'a [[u64; 2]],
     /// A plan of the first day, and the remarks about it.
     pub(crate) plan: Option<(&'a Plan, &'a Said)>,
@@ -69,7 +69,7 @@ pub(crate) fn page_of(alloc: Global, content: &Content<'_>) -> Result<Vec<u8>, B
     }
 }
 
-/// The text of a page with these rows.
+/// The text of a page that has the given rows of the changes.
 fn text_of(alloc: Global, content: &Content<'_>, rows: &Rows) -> Result<Vec<u8>, AllocError>
     requires found { length content.now.findings.now ≡ length content.now.executions.now }
     requires rows { AreRows content.now.window.now (sizes_in content.now.tape.now) content.now.tape.now.changes.items content.now.window.now.from
@@ -150,7 +150,7 @@ fn add_names<'a>(
     add_causes(&mut names.causes)
 }
 
-/// Adds the words of causes.
+/// Adds the word of each cause, which is a reason why a trade-through may be lawful.
 fn add_causes<'a>(names: &mut Vec<&'a [u8]>) -> Result<(), AllocError> {
     for cause in Cause::ALL {
         names.push(cause.word().as_bytes())?;
@@ -173,7 +173,7 @@ fn add_symbols<'a>(
     Ok(())
 }
 
-/// Adds an empty text and the names of participants to an empty list.
+/// Adds the names of participants to an empty list, after an empty text. So the number 0 means no participant.
 fn add_parts<'a>(names: &mut Vec<&'a [u8]>, roster: &'a Roster) -> Result<(), AllocError>
     requires { names.old.items ≡ [] }
     ensures { OnOk result (map (λ name. name.now) names.new.items ≡ part_names roster.now) }
@@ -185,7 +185,7 @@ fn add_parts<'a>(names: &mut Vec<&'a [u8]>, roster: &'a Roster) -> Result<(), Al
     Ok(())
 }
 
-/// A page with these rows and names.
+/// The text of a page that has the given rows and names.
 fn page_with<'l, 't>(
     alloc: Global,
     content: &'l Content<'t>,
@@ -272,14 +272,14 @@ fn tables_with<'l, 't>(
     }
 }
 
-/// These rows, or none if they are not wanted.
+/// The rows of the boards, or none if the page has only best quotations.
 fn unless<'x>(is_unwanted: bool, rows: &'x [[u64; 11]]) -> &'x [[u64; 11]]
     ensures { result.now ≡ (if is_unwanted then [] else rows.now) }
 {
     if is_unwanted { &[] } else { rows }
 }
 
-/// The row of each day: its first version, its last one, and whether they have times.
+/// The row of each day: its first version, its last version, and 1 if the page counts times, else 0.
 fn days_of(alloc: Global, content: &Content<'_>) -> Result<Vec<[u64; 3]>, AllocError>
     ensures { IfOk result (λ days. days.items ≡ replicate (length content.now.symbols.now) (day_row content.now.window.now)) }
 {
@@ -304,7 +304,7 @@ fn sorted_of(alloc: Global, content: &Content<'_>, rows: &Rows) -> Result<Rows, 
     Ok(Rows { best, board, lots })
 }
 
-/// A page with these lists and tables.
+/// The complete text of a page that has the given lists and tables.
 fn whole_page(
     alloc: Global,
     lists: &Lists<'_, '_>,
@@ -321,7 +321,7 @@ fn whole_page(
     Ok(text)
 }
 
-/// Appends a page.
+/// Appends the text of a page: the plain report and the data, between the parts that are the same on every page.
 fn append_page(text: &mut Vec<u8>, report: &[u8], json: &[u8]) -> Result<(), AllocError>
     ensures { OnOk result (text.new.items ≡ text.old.items ++ page_text report.now json.now) }
 {

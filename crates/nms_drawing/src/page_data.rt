@@ -18,7 +18,7 @@ pub(crate) struct Lists<'l, 't> {
     pub(crate) causes: &'l [&'t [u8]],
     /// The ids of the executions.
     pub(crate) ids: &'l [&'t [u8]],
-    /// All other texts, after an empty one.
+    /// The texts that belong to a plan, after an empty one.
     pub(crate) words: &'l [&'t [u8]],
 }
 

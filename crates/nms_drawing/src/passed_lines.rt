@@ -9,11 +9,11 @@ use std::{mem, str};
 /// The end of the header, with the name of the column of times.
 const HEAD: &[u8] = b",time\n";
 
-/// A writer of a stream whose lines are passed on as objects. Or they are passed on with their times, as they are or as objects.
+/// A writer that takes a stream, and passes each line on: as text with the line's time, or as a JSON object.
 #[derive(Drop)]
 pub(crate) struct PassedLines<'a, W> {
     alloc: Global,
-    /// The times of the versions; `None` if each line is an object without one.
+    /// The times of the versions; `None` if each line becomes a JSON object without a time.
     times: Option<&'a Times>,
     form: Form,
     answers: &'a mut W,
@@ -68,7 +68,7 @@ impl<'a, W: Write> PassedLines<'a, W> {
         }
     }
 
-    /// Passes a line on.
+    /// Passes on a complete line: the header if it is the first line, else a line of the stream.
     fn tell(&mut self, line: &[u8]) -> std::result::Result<(), ShowFault> {
         if !self.is_after_header {
             self.is_after_header = true;
@@ -94,7 +94,7 @@ impl<'a, W: Write> PassedLines<'a, W> {
         self.put(b"\n")
     }
 
-    /// Passes the header on. Objects have none.
+    /// Passes the header of the stream on, with a column for times. A stream of JSON objects has no header.
     fn tell_header(&mut self, line: &[u8]) -> std::result::Result<(), ShowFault> {
         if self.form.is_json() {
             return Ok(());

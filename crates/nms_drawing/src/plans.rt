@@ -7,7 +7,7 @@ use nms_quote::{Leg, OrderSide, Plan};
 use nms_verdicts::{Quotation, Said};
 use std::alloc::{AllocError, Global};
 
-/// The rows of a plan, and the texts that they name by their places.
+/// The rows of the tables of a plan, and a list of texts. A row refers to a text by its place in the list.
 #[derive(Drop)]
 pub(crate) struct PlanRows<'a> {
     pub(crate) plans: Vec<[u64; 9]>,
@@ -15,11 +15,11 @@ pub(crate) struct PlanRows<'a> {
     pub(crate) quotations: Vec<[u64; 8]>,
     /// The remarks about the plan, a row for each line.
     pub(crate) said: Vec<[u64; 3]>,
-    /// The texts, after an empty one.
+    /// The texts of the plan, after an empty one at place 0.
     pub(crate) words: Vec<&'a [u8]>,
 }
 
-/// The rows if there is no plan.
+/// Empty tables and an empty list of texts, for a page without a plan.
 pub(crate) fn no_plan<'a>(alloc: Global) -> PlanRows<'a>
     ensures plans { result.plans.items ≡ [] }
     ensures legs { result.legs.items ≡ [] }
@@ -79,7 +79,7 @@ fn add_plan<'a>(
     add_lines(&mut rows.said, &mut rows.words, 2, &said.certificate)
 }
 
-/// The row of a plan.
+/// The row of a plan. Its last two numbers are the places of its name and its verdict in the list of texts.
 fn plan_row(window: &Window<'_>, day: u64, plan: &Plan) -> [u64; 9]
     ensures { result ≡ plan_row window.now day plan.now }
 {
@@ -97,7 +97,7 @@ fn plan_row(window: &Window<'_>, day: u64, plan: &Plan) -> [u64; 9]
     ]
 }
 
-/// The number of an order's side.
+/// The number that means an order's side: 1 for an order to buy, 2 for an order to sell.
 fn order_cell(side: OrderSide) -> u64
     ensures { result ≡ order_cell side }
 {
@@ -118,7 +118,7 @@ fn add_legs(rows: &mut Vec<[u64; 4]>, legs: &[Leg]) -> Result<(), AllocError>
     Ok(())
 }
 
-/// The row of a leg.
+/// The row of a leg: the number of its plan, the number of the participant, the price, and the shares.
 fn leg_row(leg: &Leg) -> [u64; 4]
     ensures { result ≡ leg_row leg.now }
 {
@@ -130,7 +130,8 @@ fn leg_row(leg: &Leg) -> [u64; 4]
     ]
 }
 
-/// Adds the rows of quotations to an empty list. Their notes are texts 3 and following.
+/// Adds the rows of quotations to an empty list. Their notes follow the plan's name and verdict in the list of texts, from
+/// place 3.
 fn add_quotations(rows: &mut Vec<[u64; 8]>, quotations: &[Quotation]) -> Result<(), AllocError>
     requires { rows.old.items ≡ [] }
     ensures { OnOk result (rows.new.items ≡ quotation_rows 3 quotations.now) }

@@ -6,14 +6,14 @@ use crate::page_data::{Lists, Tables};
 use crate::spelling::append_decimal;
 use std::alloc::AllocError;
 
-/// The most executions that are listed.
+/// The greatest number of flagged executions that the report lists.
 const MOST_LISTED: usize = 500;
 
 /// The head of the table of executions.
 const HEADS: &str =
     "<table><tr><th>id<th>symbol<th>version<th>price<th>shares<th>worse by at most<th>finding<th>exception";
 
-/// Appends the report of lists and tables.
+/// Appends the plain report of a page that has the given lists and tables.
 pub(crate) fn append_report(
     out: &mut Vec<u8>,
     lists: &Lists<'_, '_>,
@@ -34,7 +34,7 @@ fn append_about(out: &mut Vec<u8>, lists: &Lists<'_, '_>) -> Result<(), AllocErr
     out.extend_from_slice(b".</p>")
 }
 
-/// Appends texts: `each` of them with spaces between, and a comma before the next ones.
+/// Appends texts in groups of `each`. A space separates the texts of a group, and a comma separates the groups.
 fn append_joined(out: &mut Vec<u8>, texts: &[&[u8]], each: usize) -> Result<(), AllocError> {
     let mut left: usize = 0;
     for place in 0..texts.len() {
@@ -58,7 +58,7 @@ fn append_counts(out: &mut Vec<u8>, tables: &Tables<'_>) -> Result<(), AllocErro
     out.extend_from_slice(b" flagged.</p>")
 }
 
-/// Appends how many things of a kind there are, by the word for one.
+/// Appends a number of things, and the word for them. The word gets an `s` unless the number is 1.
 fn append_many(out: &mut Vec<u8>, many: usize, word: &[u8]) -> Result<(), AllocError> {
     append_decimal(out, many as u64)?;
     out.extend_from_slice(word)?;
@@ -144,7 +144,7 @@ fn append_execution(
     append_causes(out, lists.causes, row[12])
 }
 
-/// Appends the causes that a number names, with a `+` between two, or `NONE`.
+/// Appends the causes of an execution, with a `+` between two, or `NONE`. Each binary digit of the number means one cause.
 fn append_causes(out: &mut Vec<u8>, causes: &[&[u8]], number: u64) -> Result<(), AllocError> {
     if number == 0 {
         return out.extend_from_slice(b"NONE");
@@ -172,7 +172,7 @@ fn text_at<'a>(texts: &[&'a [u8]], place: u64) -> &'a [u8] {
     }
 }
 
-/// Appends a number of 1/1,000,000 with six decimals.
+/// Appends a number of dollars with six decimals. It is given in units of 1/1,000,000 dollar.
 fn append_millionths(out: &mut Vec<u8>, millionths: u64) -> Result<(), AllocError> {
     append_decimal(out, millionths / 1_000_000)?;
     out.extend_from_slice(&[
@@ -186,7 +186,7 @@ fn append_millionths(out: &mut Vec<u8>, millionths: u64) -> Result<(), AllocErro
     ])
 }
 
-/// The digit of a number at a unit.
+/// The decimal digit of a number at a power of ten, for example at 100 for the hundreds.
 fn digit(number: u64, unit: u64) -> u8
     requires { 0 < unit }
 {

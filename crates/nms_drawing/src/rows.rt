@@ -113,7 +113,7 @@ pub(crate) fn rows_of(
     }
 }
 
-/// Adds what is in force on the first board that is shown, and the rows of the changes after it.
+/// Adds what is in force at the first version that is shown, and the rows of the changes after it.
 fn add_all(
     rows: &mut Rows,
     window: &Window<'_>,
@@ -138,7 +138,7 @@ fn add_all(
     add_changes(rows, window, was, board, changes)
 }
 
-/// Adds what is in force on a board, unless it is the opening one.
+/// Adds what is in force on a board: each symbol's best quotations and participants' quotations, if any, and its round lot.
 fn add_opened(
     rows: &mut Rows,
     window: &Window<'_>,
@@ -158,7 +158,7 @@ fn add_opened(
     Ok(())
 }
 
-/// Adds what is in force for a symbol, if it has a day.
+/// Adds the quotations and the round lot of a symbol that are in force on a board, if the page shows that symbol.
 fn add_opened_symbol(
     rows: &mut Rows,
     window: &Window<'_>,
@@ -298,7 +298,7 @@ fn add_symbols(rows: &mut Rows, window: &Window<'_>, step: &Step<'_>) -> Result<
     Ok(())
 }
 
-/// Adds the rows of a change for a symbol, if it has a day.
+/// Adds the rows of a change for a symbol, if the page shows that symbol.
 fn add_symbol(
     rows: &mut Rows,
     window: &Window<'_>,
@@ -325,7 +325,7 @@ fn add_symbol(
     }
 }
 
-/// Adds the best quotations of a symbol, if they do not look as before.
+/// Adds the best bid and best offer of a symbol on a board, if they look different on the earlier board.
 fn add_best(
     best: &mut Vec<[u64; 9]>,
     window: &Window<'_>,
@@ -436,7 +436,7 @@ fn part_row(window: &Window<'_>, board: &Boards, day: u64, sym: Sym, part: Part)
     ]
 }
 
-/// The price and the displayed shares of a quotation, and how many versions ago it became so.
+/// The price, the displayed shares and the age of a quotation. The age counts the versions since it took this price and size.
 fn side_cells(version: u64, row: &Option<Row>) -> [u64; 3]
     ensures { result ≡ side_cells version row.now }
 {

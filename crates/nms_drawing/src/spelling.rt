@@ -7,13 +7,13 @@ ghost use Rattle.nms_drawing.specs.Spelling.{column_at, column_member, column_te
 use itoa::write_digits;
 use std::alloc::AllocError;
 
-/// The characters of the digits.
+/// The characters of the digits 0 to 63, which are those of base 64.
 const GLYPHS: [u8; 64] = *b"ABCDEFGHIJKLMNOPQRSTUVWXYZabcdefghijklmnopqrstuvwxyz0123456789+/";
 
-/// The most digits of a number.
+/// The greatest number of digits in base 32 that a difference between two values needs.
 const MOST_DIGITS: usize = 13;
 
-/// The powers of ten that may be a unit.
+/// The powers of ten that may be the unit of a column. The values of a column are multiples of its unit.
 const UNITS: [u64; 10] = [
     1,
     10,
@@ -27,7 +27,7 @@ const UNITS: [u64; 10] = [
     1_000_000_000,
 ];
 
-/// Appends a table as a member of an object.
+/// Appends a table of whole numbers as a member of a JSON object.
 #[tactic(auto, unfolding(crate::specs::Spelling::table_text))]
 pub(crate) fn append_table<const N: usize>(
     out: &mut Vec<u8>,
@@ -58,7 +58,7 @@ pub(crate) fn append_decimal(out: &mut Vec<u8>, number: u64) -> Result<(), Alloc
     out.extend_from_slice(&digits[start..])
 }
 
-/// Appends the member of a column.
+/// Appends a column as a member of a JSON object. A column whose values are all 0 is left out.
 fn append_member<const N: usize>(
     out: &mut Vec<u8>,
     name: &str,
@@ -79,7 +79,7 @@ fn append_member<const N: usize>(
     Ok(())
 }
 
-/// Appends a column.
+/// Appends the text of a column: the exponent of its unit, which is a power of ten, and then its differences.
 fn append_column<const N: usize>(
     out: &mut Vec<u8>,
     rows: &[[u64; N]],
@@ -93,7 +93,7 @@ fn append_column<const N: usize>(
     append_steps(out, rows, place, UNITS[usize::from(exponent)])
 }
 
-/// The greatest power of ten of which all values of a column are multiples, by its exponent.
+/// Whether all values of a column are 0.
 fn is_nothing<const N: usize>(rows: &[[u64; N]], place: usize) -> bool
     requires { place < N }
     ensures { result ≡ list_all (λ value. value == 0) (column_at place rows.now) }
@@ -106,7 +106,7 @@ fn is_nothing<const N: usize>(rows: &[[u64; N]], place: usize) -> bool
     true
 }
 
-/// The greatest exponent of which a column has multiples only.
+/// The exponent of the greatest power of ten, up to 9, such that all values of a column are multiples of that power.
 fn exponent_of<const N: usize>(rows: &[[u64; N]], place: usize) -> u8
     requires { place < N }
     ensures exponent { result ≡ exponent_within 9 (column_at place rows.now) }
@@ -133,7 +133,7 @@ fn are_multiples<const N: usize>(rows: &[[u64; N]], place: usize, unit: u64) -> 
     true
 }
 
-/// Appends the differences of a column, in units.
+/// Appends the difference between each value of a column and the value before it, in units of a power of ten.
 fn append_steps<const N: usize>(
     out: &mut Vec<u8>,
     rows: &[[u64; N]],
@@ -153,7 +153,7 @@ fn append_steps<const N: usize>(
     Ok(())
 }
 
-/// Appends a number.
+/// Appends a number in base 32, the lowest digit first. 32 is added to each digit that another digit follows.
 fn append_number(out: &mut Vec<u8>, number: u128) -> Result<(), AllocError>
     ensures { OnOk result (out.new.items ≡ out.old.items ++ number_text number) }
 {
@@ -169,7 +169,7 @@ fn append_number(out: &mut Vec<u8>, number: u128) -> Result<(), AllocError>
     Ok(())
 }
 
-/// The number of a step from one value to the next.
+/// The difference from one value to the next, as a number: twice a rise, or twice a fall and 1.
 fn step_number(was: u64, value: u64) -> u128
     ensures { result ≡ step_number was value }
 {

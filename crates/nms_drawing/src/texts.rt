@@ -7,7 +7,7 @@ ghost use Rattle.nms_drawing.specs.Texts.{comma_at, data_byte, data_text, is_no_
 
 use std::alloc::AllocError;
 
-/// Appends texts as a member of an object.
+/// Appends a list of texts as a member of a JSON object.
 #[tactic(auto, unfolding(crate::specs::Texts::texts_member))]
 pub(crate) fn append_texts(out: &mut Vec<u8>, name: &str, texts: &[&[u8]]) -> Result<(), AllocError>
     ensures { OnOk result (out.new.items ≡ out.old.items ++ texts_member name.now (map (λ text. text.now) texts.now)) }
@@ -44,7 +44,7 @@ fn append_string(out: &mut Vec<u8>, text: &[u8]) -> Result<(), AllocError>
     Ok(())
 }
 
-/// Appends a byte in its form between quotation marks.
+/// Appends a byte of a JSON text. A quotation mark, a backslash or a control character is escaped.
 fn append_byte(text: &mut Vec<u8>, byte: u8) -> Result<(), AllocError>
     ensures { OnOk result (text.new.items ≡ text.old.items ++ json_byte byte) }
 {
@@ -77,7 +77,7 @@ pub fn no_data_ends_its_element()
     ensures { (json : List ℕ) → list_all is_no_less (data_text json) ≡ true }
 {}
 
-/// A digit in base 16.
+/// The character of a digit in base 16, for a digit from 0 to 15.
 pub(crate) fn hex_digit(digit: u8) -> u8
     requires { digit < 16 }
     ensures digit { result ≡ digit_char digit }

@@ -9,12 +9,12 @@ use nms_quote::{Part, Side};
 use nms_trades::{Cause, Deal, Execution, Finding, Standing, Sums, difference, is_helped, sums_of};
 use std::alloc::{AllocError, Global};
 
-/// The rows of executions.
+/// The rows of the tables of executions.
 #[derive(Drop)]
 pub(crate) struct TradeRows<'a> {
     /// The executions.
     pub(crate) executions: Vec<[u64; 13]>,
-    /// The quotations that they traded through.
+    /// The quotations that the executions traded through.
     pub(crate) passed: Vec<[u64; 9]>,
     /// The ids of the executions.
     pub(crate) ids: Vec<&'a [u8]>,
@@ -98,7 +98,7 @@ fn is_on_page(window: &Window<'_>, execution: &Execution) -> bool
         && time <= window.until
 }
 
-/// Adds the rows of an execution of a day.
+/// Adds the row of an execution, its id, and the quotations that it traded through.
 fn add_shown<'a>(
     rows: &mut TradeRows<'a>,
     window: &Window<'_>,
@@ -195,7 +195,7 @@ fn time_shown(window: &Window<'_>, execution: &Execution) -> u64
     }
 }
 
-/// The number of a standing.
+/// The number of a standing: 3 for a trade-through, 2 for a possible one, 1 if the symbol was not yet quoted, else 0.
 fn kind_of(standing: Standing) -> u64
     ensures { result ≡ kind_of standing }
 {
@@ -207,7 +207,7 @@ fn kind_of(standing: Standing) -> u64
     }
 }
 
-/// Whether an execution is flagged.
+/// Whether an execution is flagged, because it traded through a quotation or perhaps did.
 fn is_flagged(standing: Standing) -> bool
     ensures { result ≡ is_flagged standing }
 {
@@ -217,7 +217,7 @@ fn is_flagged(standing: Standing) -> bool
     }
 }
 
-/// The number of a side, 0 if it is not known.
+/// The number of the side of an execution: 1 if it bought, 2 if it sold, 0 if that is not known.
 fn side_of(deal: Option<Deal>) -> u64
     ensures { result ≡ side_of deal }
 {
@@ -238,7 +238,7 @@ fn part_cell(part: Option<Part>) -> u64
     }
 }
 
-/// The causes that apply to a flagged execution.
+/// The causes that apply to an execution, as a number; 0 if the execution is not flagged.
 fn causes_shown(execution: &Execution, finding: &Finding, sums: &Sums) -> u64
     ensures { result ≡ causes_shown execution.now finding.now sums.now }
 {
@@ -248,7 +248,7 @@ fn causes_shown(execution: &Execution, finding: &Finding, sums: &Sums) -> u64
     causes_number(execution, finding, sums)
 }
 
-/// The causes that apply, as a number. The first cause counts 1, the next one 2, and so on.
+/// The causes that apply to an execution, as a number. The first cause counts 1, and each next one twice as much.
 fn causes_number(execution: &Execution, finding: &Finding, sums: &Sums) -> u64
     ensures { result ≡ causes_number execution.now finding.now sums.now }
 {
@@ -267,7 +267,7 @@ fn causes_number(execution: &Execution, finding: &Finding, sums: &Sums) -> u64
         + weight_of(Cause::OutOfSequence, execution, finding, sums, 4096)
 }
 
-/// A weight if a cause applies, else 0.
+/// The number that a cause counts, if it applies to an execution, else 0.
 fn weight_of(
     cause: Cause,
     execution: &Execution,

@@ -23,10 +23,11 @@ use std::alloc::Global;
 use std::io::{Read, Write};
 
 /// Writes the state at version n, after the first n changes of a file. For one symbol it is the report, for all symbols a table
-/// of their best bids and offers. As JSON, there is an object for each row and pair, or for each symbol.
+/// of their best bids and offers. As JSON, a report has an object for the symbol, for each quotation and for each pair that
+/// locks or crosses. A table has an object for each symbol.
 ///
-/// `VersionBeyondTape` if the file has fewer changes. `Times` if times are given, and their number is another. Then nothing is
-/// written. The output is not flushed.
+/// `VersionBeyondTape` if the file has fewer changes. `Times` if times are given, but not one for each change. After either
+/// fault nothing is written. The output is not flushed.
 pub fn show_version<R: Read + Drop, W: Write>(
     alloc: Global,
     setup: &Setup,
@@ -51,7 +52,7 @@ pub fn show_version<R: Read + Drop, W: Write>(
     }
 }
 
-/// Writes what a board shows for a symbol, or for all.
+/// Writes what a board shows for one symbol, or for all symbols.
 fn show_board<W: Write>(
     alloc: Global,
     roster: &Roster,
@@ -77,7 +78,7 @@ fn show_board<W: Write>(
 
 /// The board of a version, after the first n changes of a file.
 ///
-/// `VersionBeyondTape` if the file has fewer changes. `Times` if times are given, and their number is another.
+/// `VersionBeyondTape` if the file has fewer changes. `Times` if times are given, but not one for each change.
 pub(crate) fn board_at<R: Read + Drop>(
     alloc: Global,
     setup: &Setup,
@@ -140,7 +141,7 @@ fn show_symbol<W: Write>(
     }
 }
 
-/// Writes the report of a view.
+/// Writes the report of one symbol, from a view, which is what a board shows for that symbol.
 fn show_report<W: Write>(
     alloc: Global,
     roster: &Roster,
@@ -162,7 +163,7 @@ fn show_report<W: Write>(
     }
 }
 
-/// Writes a view as objects: the symbol, its rows, its pairs.
+/// Writes what a board shows for one symbol as JSON objects: the symbol, its quotations, and the pairs that lock or cross.
 fn show_view<W: Write>(
     alloc: Global,
     roster: &Roster,
@@ -185,7 +186,7 @@ fn show_view<W: Write>(
     show_pairs(alloc, roster, view, answers)
 }
 
-/// Writes the rows of a side as objects.
+/// Writes the quotations of a side, bids or offers, as JSON objects.
 fn show_side<W: Write>(
     alloc: Global,
     roster: &Roster,
@@ -200,7 +201,7 @@ fn show_side<W: Write>(
     Ok(())
 }
 
-/// Writes a row as an object.
+/// Writes a quotation as a JSON object.
 fn show_one<W: Write>(
     alloc: Global,
     roster: &Roster,
@@ -225,7 +226,7 @@ fn show_one<W: Write>(
     )
 }
 
-/// Writes the pairs that lock or cross as objects.
+/// Writes each pair of a bid and an offer that lock or cross, as a JSON object.
 fn show_pairs<W: Write>(
     alloc: Global,
     roster: &Roster,
@@ -247,7 +248,7 @@ fn show_pairs<W: Write>(
     Ok(())
 }
 
-/// Writes a pair as an object.
+/// Writes a bid and an offer that lock or cross, as a JSON object.
 fn show_pair<W: Write>(
     alloc: Global,
     roster: &Roster,
@@ -327,7 +328,7 @@ fn show_best<W: Write>(
     write_row(answers, form, &columns(items)[..shown])
 }
 
-/// A symbol, its market, and each best row's participant, price and shares.
+/// A symbol, its market, and the participant, price and shares of its best bid and best offer.
 fn items_of<'a>(roster: &'a Roster, sym: Sym, quoted: &Quoted) -> [Item<'a>; 8] {
     let market = word_of_market(market_between(quoted.bid, quoted.offer));
     let (bid, bid_price, bid_shares) = fields_of(roster, &quoted.bid);
@@ -344,7 +345,7 @@ fn items_of<'a>(roster: &'a Roster, sym: Sym, quoted: &Quoted) -> [Item<'a>; 8] 
     ]
 }
 
-/// The facts of the table, as keys of an object.
+/// The keys of the JSON object of a symbol, in the order of the columns of the table of all symbols.
 const KEYS: [&str; 8] = [
     "symbol",
     "market",
@@ -356,7 +357,7 @@ const KEYS: [&str; 8] = [
     "offer_shares",
 ];
 
-/// Writes the facts as an object.
+/// Writes a symbol with its market, best bid and best offer as a JSON object.
 fn show_object<W: Write>(
     alloc: Global,
     version: u64,
@@ -366,7 +367,7 @@ fn show_object<W: Write>(
     write_object(alloc, answers, &members_of(version, items))
 }
 
-/// The version, the symbol and the facts, each with its key.
+/// The members of the JSON object of a symbol: the version, the symbol, its market, its best bid and its best offer.
 fn members_of<'a>(version: u64, items: [Item<'a>; 8]) -> [(&'static str, Item<'a>); 10] {
     let mut members = [("", Item::Absent); 10];
     members[0] = ("what", Item::Text("symbol"));
@@ -377,7 +378,7 @@ fn members_of<'a>(version: u64, items: [Item<'a>; 8]) -> [(&'static str, Item<'a
     members
 }
 
-/// A best row's participant, price and shares.
+/// The participant, price and shares of a best quotation; absent if there is none.
 fn fields_of<'a>(roster: &'a Roster, row: &Option<Row>) -> (Item<'a>, Item<'a>, Item<'a>) {
     match row {
         None => (Item::Absent, Item::Absent, Item::Absent),
@@ -389,7 +390,7 @@ fn fields_of<'a>(roster: &'a Roster, row: &Option<Row>) -> (Item<'a>, Item<'a>, 
     }
 }
 
-/// The columns of the table with these items.
+/// The columns of a row of the table of all symbols, with their widths in characters.
 fn columns(items: [Item<'_>; 8]) -> [Column<'_>; 8] {
     let [
         symbol,

@@ -1,5 +1,5 @@
 //! All that a caller of text needs, under one name: scripts, files of changes and orders, reports, plans, audits, and the live
-//! run. Each item is from a crate below; this one adds nothing.
+//! run. Each item comes from a lower crate, and this crate adds nothing.
 #![tactic(auto)]
 
 pub use nms_fees::SETUP_K;

@@ -19,12 +19,12 @@ use std::io::Write;
 use std::sync::Wait;
 use std::thread::Threads;
 
-/// What a line asks for.
+/// The setup, the symbol and the number of changes that a line of the input asks for.
 #[derive(Clone, Copy)]
 struct Asked<'a> {
     setup: &'a Setup,
     sym: Sym,
-    /// How many changes it makes.
+    /// How many changes the caller makes.
     count: u32,
 }
 
@@ -57,7 +57,7 @@ pub(crate) fn give_call<R: AllocGlobal + Threads + Wait + Sync>(
     }
 }
 
-/// Adds the market, whether there is a bid, and the receipt of the best offer; or why there is no answer.
+/// Adds to the answer the market, whether there is a bid, and the receipt of the best offer. If the call failed, it adds why.
 fn tell_board(alloc: Global, asked: &Asked<'_>, given: &mut Vec<u8>) -> Result<(), Failed> {
     let changes = changes_of(alloc, asked.count)?;
     let roster = asked.setup.roster();
@@ -72,7 +72,7 @@ fn tell_board(alloc: Global, asked: &Asked<'_>, given: &mut Vec<u8>) -> Result<(
     )
 }
 
-/// Adds the published version, and the participant of the best bid; or why there is no answer.
+/// Adds to the answer the published version, and the participant of the best bid. If the call failed, it adds why.
 fn tell_machine(alloc: Global, asked: &Asked<'_>, given: &mut Vec<u8>) -> Result<(), Failed> {
     let changes = changes_of(alloc, asked.count)?;
     let (setup, changes) = (asked.setup, changes.as_slice());
@@ -87,7 +87,7 @@ fn tell_machine(alloc: Global, asked: &Asked<'_>, given: &mut Vec<u8>) -> Result
     )
 }
 
-/// The given number of changes.
+/// The first n of the changes that all runs make.
 fn changes_of(alloc: Global, count: u32) -> Result<Vec<Change>, Failed> {
     // The prover has to see the types of a change before the change moves, so the code mentions them.
     let _seen: Option<SideQuote> = None;
@@ -99,7 +99,7 @@ fn changes_of(alloc: Global, count: u32) -> Result<Vec<Change>, Failed> {
     Ok(changes)
 }
 
-/// Adds the shares that an order for 950 fills and its cost after n changes, and whether it was confirmed.
+/// Plans an order for 950 shares after n changes. Adds the shares filled, the cost, and whether the plan was confirmed.
 fn tell_sweep(alloc: Global, asked: &Asked<'_>, given: &mut Vec<u8>) -> Result<(), Failed> {
     let order = some_or_failed(order_of(asked.sym))?;
     let changes = changes_of(alloc, asked.count)?;
@@ -120,7 +120,7 @@ fn order_of(sym: Sym) -> Option<Order> {
     Order::new(OrderSide::Buy, sym, shares, limit, false, PartSet::none())
 }
 
-/// Adds how many changes each feed sent, how many were taken, and the version that the desk was settled on.
+/// Adds to the answer how many changes each feed sent, how many were taken, and the version on which the desk was settled.
 fn tell_threads<R: AllocGlobal + Threads + Wait + Sync>(
     rt: &R,
     asked: &Asked<'_>,
@@ -132,8 +132,8 @@ fn tell_threads<R: AllocGlobal + Threads + Wait + Sync>(
     or_failed(write!(given, "{sent:?} {taken} {}", came.settled))
 }
 
-/// Adds how many changes were appended at their places, how many the tape has, the version and the shares that a desk saw, and
-/// whether no change was left out.
+/// Adds to the answer how many changes are at their places on the tape, and how many the tape has. Then come the version and the
+/// shares that a desk saw, and whether no change was left out.
 fn tell_again<R: AllocGlobal + Wait>(
     rt: &R,
     asked: &Asked<'_>,

@@ -1,4 +1,4 @@
-//! The texts of the faults, which no program writes.
+//! The texts of the faults that no run of a program shows.
 
 use crate::Failed;
 use crate::lines::{gap_after, or_failed};
@@ -16,7 +16,7 @@ use nms_words::WordsFault;
 use std::fmt::Display;
 use std::io::Write;
 
-/// Adds the text of each fault of a part.
+/// Adds to the answer the text of each fault of one part of the library.
 pub(crate) fn give_faults(part: &str, given: &mut Vec<u8>) -> Result<(), Failed> {
     match part {
         "numbers" => tell_numbers(given),
@@ -29,7 +29,7 @@ pub(crate) fn give_faults(part: &str, given: &mut Vec<u8>) -> Result<(), Failed>
     }
 }
 
-/// Adds the texts of faults.
+/// Adds to the answer the texts of the given faults.
 fn tell<V: Display>(given: &mut Vec<u8>, faults: &[V]) -> Result<(), Failed> {
     for fault in faults {
         or_failed(write!(given, "{}{fault}", gap_after(given)))?;

@@ -33,7 +33,7 @@ pub(crate) fn give_lane<R: AllocGlobal + Threads + Wait + Sync>(
     }
 }
 
-/// Runs a lane of a capacity, with n changes from each of m threads.
+/// Runs a lane of a given capacity, with n changes from each of its senders.
 fn measure<R: AllocGlobal + Threads + Wait + Sync>(
     rt: &R,
     capacity: usize,

@@ -1,9 +1,9 @@
-//! Reading texts, and adding to an answer. Any failure on the way is `Failed`.
+//! Reading the lines of the input, and adding to an answer. Any failure on the way is `Failed`.
 
 use crate::Failed;
 use std::str;
 
-/// What a call gave; `Failed` for any fault.
+/// The value that a call returned. Any fault of the call becomes `Failed`.
 pub(crate) fn or_failed<V, E: Drop>(came_to: Result<V, E>) -> Result<V, Failed> {
     match came_to {
         Ok(value) => Ok(value),
@@ -11,7 +11,7 @@ pub(crate) fn or_failed<V, E: Drop>(came_to: Result<V, E>) -> Result<V, Failed> 
     }
 }
 
-/// A value that has to be there.
+/// A value that the run needs. If it is missing, the run fails.
 pub(crate) fn some_or_failed<V>(found: Option<V>) -> Result<V, Failed> {
     match found {
         Some(value) => Ok(value),
@@ -24,7 +24,7 @@ pub(crate) fn text_of(bytes: &[u8]) -> Result<&str, Failed> {
     or_failed(str::from_utf8(bytes))
 }
 
-/// The texts before and after the first mark of this kind in a text.
+/// The parts of a text before and after the first occurrence of a mark. It fails if the mark is missing.
 pub(crate) fn around<'a>(text: &'a str, mark: &str) -> Result<(&'a str, &'a str), Failed> {
     some_or_failed(text.split_once(mark))
 }

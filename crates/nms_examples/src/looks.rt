@@ -21,17 +21,17 @@ const BATCHES_TO_FILL: u32 = 50;
 
 const BATCH: u32 = 64;
 
-/// A desk, and how many of its looks' rows were right.
+/// A desk, and how many rows its looks showed at the expected place.
 #[derive(Drop)]
 struct Seat {
     desk: Desk,
     rows: u64,
-    /// Keeps the next seat, which another thread writes, off this one's cache lines.
+    /// Space that keeps a seat and the next one on different cache lines, because another thread writes the next one.
     _apart: [u64; 16],
 }
 
-/// Looks from desks, each in its own thread, at a row of each side. A line says how many desks there are and how many looks
-/// each makes. Adds how many rows were right.
+/// Makes looks from desks, each in its own thread, at a row of each side. A line says how many desks there are and how many looks
+/// each makes. Adds to the answer how many rows were right.
 pub(crate) fn give_looks<R: AllocGlobal + Threads + Wait + Clock + Sync>(
     rt: &R,
     sizes: &str,
@@ -58,7 +58,7 @@ fn run<R: Threads + Wait + Clock + Sync>(
     }
 }
 
-/// As `run`, if everything is open. The publisher is closed at the end.
+/// Fills the board, and looks while an open publisher goes on. The publisher is closed at the end.
 fn run_open<R: Threads + Wait + Clock + Sync>(
     rt: &R,
     alloc: Global,
@@ -93,7 +93,7 @@ fn look_from_each<R: Threads + Wait + Clock + Sync>(
     look_beside(rt, publisher, number, seats, looks);
 }
 
-/// How many rows were right, for all seats together.
+/// How many rows were right, in the looks of all desks together.
 fn rows_of(seats: &[Seat]) -> u64 {
     let mut rows = 0u64;
     for seat in seats {
@@ -102,7 +102,7 @@ fn rows_of(seats: &[Seat]) -> u64 {
     rows
 }
 
-/// The desks at their seats.
+/// Gives each desk its own seat, at which no row is counted yet.
 fn seats_of(alloc: Global, desks: Vec<Desk>) -> Result<Vec<Seat>, AllocError> {
     let mut seats = Vec::new(alloc);
     for desk in desks {
@@ -115,7 +115,7 @@ fn seats_of(alloc: Global, desks: Vec<Desk>) -> Result<Vec<Seat>, AllocError> {
     Ok(seats)
 }
 
-/// Looks from each seat, and publishes until all have ended.
+/// Looks from each seat, and publishes until all looks have ended.
 fn look_beside<R: Threads + Wait + Clock + Sync>(
     rt: &R,
     publisher: &mut Publisher,
@@ -134,7 +134,7 @@ fn look_beside<R: Threads + Wait + Clock + Sync>(
     );
 }
 
-/// Makes n looks, at one symbol after another and a row of each side.
+/// Makes n looks at one symbol after another. Each look compares one row of each side with the expected participant.
 fn look_often(seat: &mut Seat, looks: u32) {
     let Some(first) = Sym::new(0) else {
         return;
@@ -154,7 +154,7 @@ fn look_often(seat: &mut Seat, looks: u32) {
     }
 }
 
-/// 1 if the row with that number on a side is that of the participant at the place.
+/// Checks one row of a side: 1 if the row at a place is of the participant at the same place, else 0.
 fn rows_at(view: &View, side: Side, place: u64) -> u64 {
     match view.rows(side).get(place as usize) {
         Some(row) if u64::from(row.part.get()) == place => 1,

@@ -17,7 +17,7 @@ pub(crate) fn offer_of(place: u8, state: QState, price: u64, shares: u32) -> Opt
     })
 }
 
-/// Applies such an offer to a board.
+/// Applies an offer of the first symbol by the participant at a place to a board, if the board takes it.
 pub(crate) fn apply_offer(board: &mut Boards, place: u8, state: QState, price: u64, shares: u32) {
     if let Some(offer) = offer_of(place, state, price, shares)
         && board.takes(&offer)
@@ -26,7 +26,8 @@ pub(crate) fn apply_offer(board: &mut Boards, place: u8, state: QState, price: u
     }
 }
 
-/// The change with that number. Each participant of the wide setup quotes each symbol in turn, with other shares in each round.
+/// The quotation with a given number. Each participant of the wide setup quotes each symbol in turn, with other shares in each
+/// round.
 pub(crate) fn quotation(number: u64) -> Option<Change> {
     let price = Price::new(100_000)?;
     let shares = Shares::new(100 * (1 + number / (PARTICIPANTS * SYMBOLS) % 9) as u32)?;

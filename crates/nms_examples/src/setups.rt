@@ -6,10 +6,10 @@ use nms_engine::SETUP_K;
 use nms_fees::{Setup, read_setup};
 use std::alloc::{AllocError, Global};
 
-/// The participants of the wide setup.
+/// How many participants the wide setup has.
 pub(crate) const PARTICIPANTS: u64 = 16;
 
-/// The symbols of the wide setup.
+/// How many symbols the wide setup has.
 pub(crate) const SYMBOLS: u64 = 200;
 
 /// The built-in setup.
@@ -17,7 +17,7 @@ pub(crate) fn built_in(alloc: Global) -> Result<Setup, Failed> {
     or_failed(read_setup(alloc, SETUP_K))
 }
 
-/// The wide setup with a tape, a queue and desks of these sizes.
+/// The wide setup, with a given limit of the tape, room in the queue and number of desks.
 pub(crate) fn wide(alloc: Global, tape: u32, queue: u16, desks: u8) -> Result<Setup, Failed> {
     let mut text = String::new(alloc);
     or_failed(write_wide(&mut text, tape, queue, desks))?;

@@ -22,7 +22,7 @@ pub(crate) fn give_steps(alloc: Global, line: &str, given: &mut Vec<u8>) -> Resu
     }
 }
 
-/// Adds each step with its answer.
+/// Makes each step that a line names, and adds the step with its answer.
 fn give_each(flow: &mut Flow, steps: &str, given: &mut Vec<u8>) -> Result<(), Failed> {
     for word in steps.split(' ') {
         or_failed(write!(given, "{}{word} ", gap_after(given)))?;
@@ -31,7 +31,7 @@ fn give_each(flow: &mut Flow, steps: &str, given: &mut Vec<u8>) -> Result<(), Fa
     Ok(())
 }
 
-/// The step that a word names: a participant's letter sends its offer.
+/// The step that a word names. The letter of a participant sends its offer.
 fn step_named(word: &str) -> Option<Step> {
     match word {
         "take" => Some(Step::Take),
@@ -53,7 +53,7 @@ fn sending(feed: Feed, place: u8) -> Option<Step> {
     Some(Step::Send(feed, offer))
 }
 
-/// Makes the step that a word names, or takes everything, and adds the answer.
+/// Makes the step that a word names, and adds its answer. The word `all` takes all changes from the queue.
 fn give_step(flow: &mut Flow, word: &str, given: &mut Vec<u8>) -> Result<(), Failed> {
     if word == "all" {
         return or_failed(write!(given, "{}", flow.take_all().code()));
@@ -69,7 +69,7 @@ fn give_step(flow: &mut Flow, word: &str, given: &mut Vec<u8>) -> Result<(), Fai
     tell_reply(flow.step(step), given)
 }
 
-/// Adds an answer. For a view it is its version and its number of offers, for a refusal its code.
+/// Adds the answer to a step in words. A view is shown by its version and its number of offers, a refusal by its code.
 fn tell_reply(answer: Result<Reply, StepFault>, given: &mut Vec<u8>) -> Result<(), Failed> {
     or_failed(match answer {
         Ok(Reply::Sent) => write!(given, "sent"),

@@ -17,7 +17,7 @@ use std::fmt::Debug;
 use std::process::Termination;
 use std::test::Fail;
 
-/// Fails if two values differ.
+/// Fails the trial if two values differ.
 fn same<V: PartialEq + Debug + Drop>(one: V, other: V) -> Result<(), Fail> {
     if one == other {
         Ok(())
@@ -26,7 +26,7 @@ fn same<V: PartialEq + Debug + Drop>(one: V, other: V) -> Result<(), Fail> {
     }
 }
 
-/// What a trial needs to begin with.
+/// A value that a trial needs at its start. If it is missing, the trial fails.
 fn there<V>(found: Option<V>) -> Result<V, Fail> {
     match found {
         Some(value) => Ok(value),
@@ -34,7 +34,7 @@ fn there<V>(found: Option<V>) -> Result<V, Fail> {
     }
 }
 
-/// Makes the trials of a part, and adds that they passed.
+/// Makes the trials of one part of the library, and adds to the answer that they passed.
 pub(crate) fn give_trials<T: AllocGlobal + Eprint>(
     rt: &T,
     part: &str,
@@ -43,7 +43,7 @@ pub(crate) fn give_trials<T: AllocGlobal + Eprint>(
     let setup = built_in(rt.alloc())?;
     let came_to = try_part(rt.alloc(), &setup, part);
     let has_passed = came_to.is_ok();
-    // The result is dropped, because this only prints on standard error what failed.
+    // The report only prints on standard error what failed. Its own result changes nothing, so it is dropped.
     let _ = came_to.report(rt);
     if !has_passed {
         return Err(Failed);
@@ -51,7 +51,7 @@ pub(crate) fn give_trials<T: AllocGlobal + Eprint>(
     or_failed(given.extend_from_slice(b"passed"))
 }
 
-/// Makes the trials of a part.
+/// Makes the trials of one part of the library.
 fn try_part(alloc: Global, setup: &Setup, part: &str) -> Result<(), Fail> {
     match part {
         "scripts" => script_streams::try_all(alloc, setup),

@@ -37,10 +37,10 @@ use nms_show::{Ending, Form, Item, SafeText};
 use std::alloc::{AllocError, Global};
 use std::io::{Read, Write};
 
-/// The fault of a source that has more records, lines or bytes than a number counts. No source has.
+/// The fault of a source with more records, lines or bytes than a number of 64 bits counts. No source has.
 pub(crate) const TOO_LONG: ExplainFault = ExplainFault::Record(RecordFault::Failed);
 
-/// What the caller asks for.
+/// What a call explains: the setup's roster and number of feeds, the name of the file, and what sort of file it is.
 #[derive(Clone, Copy)]
 struct Asked<'a> {
     roster: &'a Roster,
@@ -70,7 +70,7 @@ pub fn explain_script<R: Read + Drop, W: Write>(
     explain_file(alloc, setup, file, source, from, form, answers)
 }
 
-/// Reports each refused record of a file of changes, as `explain_script` does.
+/// Reports each refused record of a file of changes, and how many were refused. The answers are not flushed.
 ///
 /// What is written is safe to show on a terminal.
 pub fn explain_changes<R: Read + Drop, W: Write>(
@@ -87,7 +87,7 @@ pub fn explain_changes<R: Read + Drop, W: Write>(
     explain_file(alloc, setup, file, source, Reading::Changes, form, answers)
 }
 
-/// Reports each refused record of a file of orders, as `explain_script` does.
+/// Reports each refused record of a file of orders, and how many were refused. The answers are not flushed.
 ///
 /// What is written is safe to show on a terminal.
 pub fn explain_orders<R: Read + Drop, W: Write>(
@@ -126,7 +126,7 @@ pub fn explain_feed<R: Read + Drop, W: Write>(
     explain_file(alloc, setup, file, source, from, form, answers)
 }
 
-/// Reports each refused record of a file, and how many there were.
+/// Reports each refused record of a file, and how many records were refused.
 fn explain_file<R: Read + Drop, W: Write>(
     alloc: Global,
     setup: &Setup,
@@ -151,7 +151,8 @@ fn explain_file<R: Read + Drop, W: Write>(
     explain_source(&asked, &mut reader, &mut row, &mut out, answers)
 }
 
-/// As `explain_file`, for the records that a reader gives. It owns neither the reader nor the record, so its exits drop nothing.
+/// Reports each refused record that a reader gives, and then the counts. It owns neither the reader nor the record, so its
+/// exits drop nothing.
 fn explain_source<R: Read, W: Write>(
     asked: &Asked<'_>,
     reader: &mut Reader<RecordSource<R>>,
@@ -199,7 +200,7 @@ fn is_swapped(tally: &Tally) -> bool {
     tally.records > 0 && tally.count(LineFault::WrongFeed) == tally.records
 }
 
-/// How a report ends on a file with these counts.
+/// How the report on a file ends: `Refused` if a record was refused, else `Done`.
 fn ending_of(tally: &Tally) -> Ending
     ensures { result ≡ ending_by tally.now.refused }
 {
@@ -210,7 +211,7 @@ fn ending_of(tally: &Tally) -> Ending
     }
 }
 
-/// Reports each refused record that a reader gives, one after the other, and counts all.
+/// Reports each refused record that a reader gives, one after the other, and counts all records.
 fn explain_records<R: Read, W: Write>(
     asked: &Asked<'_>,
     reader: &mut Reader<RecordSource<R>>,
@@ -236,7 +237,7 @@ fn explain_records<R: Read, W: Write>(
     Err(TOO_LONG)
 }
 
-/// Counts the record with a number, and reports it if it is refused.
+/// Counts a record, and reports it with its number if it is refused.
 fn explain_record<R: Read>(
     asked: &Asked<'_>,
     reader: &Reader<RecordSource<R>>,
@@ -340,7 +341,7 @@ pub(crate) fn quote_at(text: &[u8], line: u64) -> Option<Point> {
     point_at(text, LineCount::at(line), open_quote(text)?)
 }
 
-/// What is found at which place, and what is expected there.
+/// What is wrong with a record: the field, its place in the text, what was found there, and what is expected there.
 #[derive(Clone, Copy)]
 struct Finding<'a> {
     field: Option<FieldPlace>,
@@ -349,7 +350,7 @@ struct Finding<'a> {
     expected: &'a str,
 }
 
-/// The finding on a record that has another number of fields than its kind.
+/// The finding on a record whose number of fields is not that of its kind.
 fn count_of<'a>(row: &'a ByteRecord, text: &'a [u8]) -> Finding<'a>
     ensures found { is_own_plain result.found ≡ true }
 {
@@ -361,8 +362,9 @@ fn count_of<'a>(row: &'a ByteRecord, text: &'a [u8]) -> Finding<'a>
     }
 }
 
-/// The place at which a record has too many fields, or its end if it has too few. It is the quote that opens a field over a
-/// line end, the number that a comma parts, the last comma, or else the fields past the most allowed.
+/// The place to report for a record with a wrong number of fields. It is the quote that opens a field over a line end, or else
+/// the number that a comma parts. Without either, it is the fields past the most allowed, or the last comma if nothing comes
+/// after it. For too few fields it is the end of the record.
 fn surplus_span(row: &ByteRecord, text: &[u8]) -> Span {
     let (end, count) = (text.len(), row.len());
     if let Some(start) = open_quote(text) {

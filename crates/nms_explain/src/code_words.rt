@@ -69,9 +69,9 @@ const CODES: [Code; 51] = [
 pub(crate) struct CodeWords {
     /// The code, as it is printed.
     pub(crate) code: &'static str,
-    /// The sentence that says what it means.
+    /// The sentence that says what the code means.
     pub(crate) sentence: &'static str,
-    /// What to do about it, or an empty text.
+    /// What to do about the code, or an empty text.
     pub(crate) remedy: &'static str,
 }
 
@@ -95,7 +95,7 @@ pub fn explain_code<W: Write>(
 }
 
 /// Writes each meaning of a code: in the reviewer's program, of a refused execution, in the other programs or the library.
-/// Returns whether there is one.
+/// Returns whether the code has any meaning.
 fn tell_code(code: &str, out: &mut SafeText) -> Result<bool, AllocError> {
     let mut is_told = false;
     for own in CODES {

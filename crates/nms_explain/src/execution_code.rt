@@ -76,7 +76,7 @@ impl ExecutionCode {
         }
     }
 
-    /// The field that is wrong; none if the number of fields is.
+    /// The field that is wrong; none if the number of fields is wrong.
     pub(crate) fn field(self) -> Option<FieldPlace>
         ensures { result ≡ field_of self }
     {

@@ -32,7 +32,7 @@ pub struct RefusedExecution {
     pub code: ExecutionCode,
 }
 
-/// What the caller asks for.
+/// The name of the file of executions that is explained, and which of its executions are refused.
 #[derive(Clone, Copy)]
 struct Asked<'a> {
     file: &'a str,
@@ -61,7 +61,8 @@ pub fn explain_executions<W: Write>(
     explain_text(&asked, &mut reader, &mut row, &mut out, answers)
 }
 
-/// As `explain_executions`, for the text of a reader. It owns neither the reader nor the record, so its exits drop nothing.
+/// Reports the refused executions of the text that a reader gives, and then the counts. It owns neither the reader nor the
+/// record, so its exits drop nothing.
 fn explain_text<R: Read, W: Write>(
     asked: &Asked<'_>,
     reader: &mut Reader<RecordSource<R>>,
@@ -106,7 +107,7 @@ fn explain_records<R: Read, W: Write>(
     Err(TOO_LONG)
 }
 
-/// Reports the record with a number if it is the next that is refused, after n. Returns how many were reported then.
+/// Reports a record if it is the next refused execution. Returns how many refused executions were reported up to then.
 fn explain_record<R: Read>(
     asked: &Asked<'_>,
     reader: &Reader<RecordSource<R>>,
@@ -175,8 +176,9 @@ fn refusal_of<'a>(
     }
 }
 
-/// The place of the field. If the number of fields is wrong, it is the quote that opens a field over a line end, the fields
-/// past the ninth or the comma before them, or the end of the record.
+/// The place of the wrong field. If the number of fields is wrong, it is the quote that opens a field over a line end, if there
+/// is one. Else it is the fields past the ninth, or the last comma if nothing comes after it. For too few fields it is the end
+/// of the record.
 fn span_at(text: &[u8], row: &ByteRecord, field: Option<FieldPlace>) -> Span {
     if let Some(at) = field {
         return span_of(text, at.place);
@@ -201,7 +203,7 @@ fn span_at(text: &[u8], row: &ByteRecord, field: Option<FieldPlace>) -> Span {
     Span { start, end }
 }
 
-/// What is found at a field; the number of fields if none is wrong.
+/// What is found at the wrong field; the number of fields if that number is wrong.
 fn found_at<'a>(row: &'a ByteRecord, field: Option<FieldPlace>) -> Item<'a>
     ensures { is_own_plain result ≡ true }
 {
@@ -222,7 +224,7 @@ fn tell_sum(asked: &Asked<'_>, records: u64, out: &mut SafeText) -> Result<(), A
     Ok(())
 }
 
-/// How many are refused by a code.
+/// How many executions are refused by a code.
 fn count_of(refused: &[RefusedExecution], code: ExecutionCode) -> u64 {
     refused
         .iter()

@@ -123,7 +123,7 @@ fn is_word(text: &[u8]) -> bool {
             .all(|byte| byte.is_ascii_alphabetic() || *byte == b'_')
 }
 
-/// Why a record may have another number of fields.
+/// A hint why a record does not have the number of fields that its kind has.
 fn hint_of_count(text: &[u8], row: &ByteRecord) -> &'static str {
     if parted_number(row).is_some() {
         return "a comma within a number parts it in two: write numbers without separators";
@@ -137,7 +137,7 @@ fn hint_of_count(text: &[u8], row: &ByteRecord) -> &'static str {
     ""
 }
 
-/// Whether a record has more fields than its kind.
+/// Whether a record has more fields than its kind allows.
 fn has_more(row: &ByteRecord) -> bool {
     surplus(row) > 0
 }

@@ -27,7 +27,7 @@ impl LineCount {
         Some(LineCount::at(self.line.checked_add(feeds)?))
     }
 
-    /// As `after`, for a text with carriage returns.
+    /// The count after a text that may have carriage returns; none if there are more lines than a number counts.
     fn after_returns(self, text: &[u8]) -> Option<Self> {
         let mut count = self;
         for byte in text {

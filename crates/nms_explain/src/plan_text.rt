@@ -32,14 +32,14 @@ use std::io::{Read, Write};
 /// The code of a text that is not a plan's.
 const CODE: Code = Code::L11;
 
-/// What the caller asks for.
+/// The roster by which the text of a plan is explained, and the name of its file.
 #[derive(Clone, Copy)]
 struct Asked<'a> {
     roster: &'a Roster,
     file: &'a str,
 }
 
-/// The state after the records of a plan's text up to now.
+/// What is known after the records of a plan's text up to now: what is due, how many came, and how many were wrong.
 #[derive(Clone, Copy)]
 struct Came {
     walk: PlanWalk,
@@ -72,7 +72,8 @@ pub fn explain_plan<W: Write>(
     explain_text(&asked, &mut reader, &mut row, &mut out, answers)
 }
 
-/// As `explain_plan`, for the text of a reader. It owns neither the reader nor the record, so its exits drop nothing.
+/// Reports each wrong record of the plan's text that a reader gives, and then the counts. It owns neither the reader nor the
+/// record, so its exits drop nothing.
 fn explain_text<R: Read, W: Write>(
     asked: &Asked<'_>,
     reader: &mut Reader<RecordSource<R>>,
@@ -123,7 +124,7 @@ fn explain_records<R: Read, W: Write>(
     Err(TOO_LONG)
 }
 
-/// Counts the record with a number, and reports it if it is wrong.
+/// Counts a record of a plan's text, and reports it with its number if it is wrong.
 fn explain_record<R: Read>(
     asked: &Asked<'_>,
     reader: &Reader<RecordSource<R>>,
@@ -254,7 +255,7 @@ fn span_at(text: &[u8], row: &ByteRecord, at: FieldPlace, roster: &Roster) -> Sp
     }
 }
 
-/// What is found at a field, or at a span of joined names; the number of fields if none is wrong.
+/// What is found at the wrong field, or at the wrong one of joined names; the number of fields if that is wrong.
 fn found_at<'a>(
     text: &'a [u8],
     row: &'a ByteRecord,
@@ -308,7 +309,7 @@ fn layout_of(word: &[u8]) -> &'static str {
     }
 }
 
-/// What is expected of a field.
+/// What is expected of a field of a plan's record.
 fn expected_of(due: PlanDue, name: FieldName) -> &'static str {
     match name {
         FieldName::Kind => expected_word(due),
@@ -350,7 +351,7 @@ fn expected_shares(due: PlanDue) -> &'static str {
     }
 }
 
-/// The word with which a record has to begin.
+/// The word with which the record of a plan that is due has to begin.
 fn expected_word(due: PlanDue) -> &'static str {
     match due {
         PlanDue::Plan => "PLAN",

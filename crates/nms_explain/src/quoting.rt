@@ -14,7 +14,7 @@ pub(crate) enum Quoting {
 }
 
 impl Quoting {
-    /// The state of the next byte after this one.
+    /// Where the next byte is, if this byte is at this place: within quotes or not.
     pub(crate) fn after(self, byte: u8) -> Self {
         match (self, byte) {
             (Quoting::Start | Quoting::After, b'"') => Quoting::Within,

@@ -52,7 +52,8 @@ pub(crate) fn open_source<R: Read>(alloc: Global, source: R) -> Reader<RecordSou
     open_records(alloc, RecordSource::new(alloc, source))
 }
 
-/// Reads the next record, as `read_next` of `nms_lines` does. It is also `NoMemory` if the record's text does not fit.
+/// Reads the next record; `false` if there is none. It fails with `NoMemory` also if there is no memory to keep the record's
+/// text.
 pub(crate) fn next_record<R: Read>(
     reader: &mut Reader<RecordSource<R>>,
     row: &mut ByteRecord,

@@ -17,7 +17,7 @@ pub(crate) struct Refusal<'a> {
     pub(crate) file: &'a str,
     /// The record's number, counted from 1.
     pub(crate) number: u64,
-    /// The line on which it begins.
+    /// The line of the file on which the record begins, counted from 1.
     pub(crate) line: u64,
     /// The record's text.
     pub(crate) text: &'a [u8],
@@ -27,13 +27,13 @@ pub(crate) struct Refusal<'a> {
     pub(crate) code: RefusalCode,
     /// The field that is wrong, if one is.
     pub(crate) field: Option<FieldPlace>,
-    /// What is found there, or how many fields there are.
+    /// What is found in the wrong field, or how many fields the record has.
     pub(crate) found: Item<'a>,
-    /// What is expected there.
+    /// What is expected instead of what was found.
     pub(crate) expected: &'a str,
     /// What the record looks like instead, or an empty text.
     pub(crate) hint: &'a str,
-    /// What to do about it.
+    /// What to do about the refusal.
     pub(crate) remedy: &'a str,
     /// The place of the quote that opens a field which goes on over a line end, or to the end of the file.
     pub(crate) quote: Option<Point>,

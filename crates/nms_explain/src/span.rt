@@ -23,7 +23,7 @@ pub(crate) struct Point {
 }
 
 impl Point {
-    /// The place in the file with a name.
+    /// This place, with the name of the file in which it is.
     pub(crate) fn of_file<'a>(self, file: &'a str) -> Location<'a> {
         Location {
             file,
@@ -33,7 +33,7 @@ impl Point {
     }
 }
 
-/// The span of the field after n others, with its quotes; the end of the text if it has fewer.
+/// The span of the field after n others, with its quotes; the end of the text if the record has fewer fields.
 pub(crate) fn span_of(text: &[u8], place: usize) -> Span {
     let mut quoting = Quoting::Start;
     let mut start = 0;

@@ -8,7 +8,8 @@ use nms_lines::{Line, LineFault};
 use nms_show::{Item, SafeText};
 use std::alloc::AllocError;
 
-/// How many faults a record may have. The place of each is below this number, so a new fault needs a greater one.
+/// The number of faults for which a record may be refused. The place of each fault is below it, so a new fault needs a greater
+/// one.
 const FAULT_COUNT: usize = 11;
 
 /// The faults of a record, in the order of their codes.
@@ -98,7 +99,7 @@ impl Tally {
     }
 }
 
-/// Whether a line publishes.
+/// Whether a record of a script publishes, as `F` and `P` do.
 fn publishes(line: &Line) -> bool
     ensures { result ≡ publishes line.now }
 {

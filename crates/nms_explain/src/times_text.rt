@@ -12,14 +12,14 @@ use nms_times::{Times, TimesFault, read_times};
 use std::alloc::{AllocError, Global};
 use std::io::Write;
 
-/// How many falls are reported one by one. The others are only counted.
+/// How many of the times that are before the time above them are reported one by one. The others are only counted.
 const MOST_TOLD: u64 = 100;
 /// What a line of times is.
 const A_TIME: &str =
     "15 digits of a time of day, HHMMSSnnnnnnnnn, and a line feed; a comma and 15 digits of a row between in every line or in none";
 
-/// Reports why no version is found by a file of times. That is its first line that is no time (H1), or else each line whose
-/// time is before that of the line above it (H2), at most 100 of them. It ends with `Refused` if there is one.
+/// Reports why no version is found by a file of times. That is its first line that is no time (H1). If all lines are times, it
+/// is each line whose time is before that of the line above it (H2), at most 100. It ends with `Refused` if a line is refused.
 ///
 /// The answers are not flushed. What is written is safe to show on a terminal. At a fault it is a prefix of such a text.
 #[tactic(auto, using(nms_show::proofs::Offered::no_part_added))]
@@ -70,7 +70,7 @@ fn tell_times(file: &str, text: &[u8], out: &mut SafeText) -> Result<Ending, All
     }
 }
 
-/// Reports the first 100 times that are before the one above them. Returns how many there are.
+/// Reports the first 100 times that are before the time of the line above. Returns how many such times the text has.
 fn tell_falls(
     file: &str,
     text: &[u8],

@@ -10,9 +10,10 @@ use crate::toml_line::{header_in, names_key, pair_in};
 /// The beginning of a line of a text.
 #[derive(Clone, Copy)]
 pub(crate) struct LineStart {
-    /// How many bytes come before it.
+    /// How many bytes of the text come before the line.
     pub(crate) bytes: usize,
-    /// The nesting of the place, which is no deeper than the number of bytes before it.
+    /// How deep the beginning of the line is in brackets and braces, and whether it is in quotes. The depth is at most the
+    /// number of bytes before it.
     pub(crate) nest: Nest,
 }
 
@@ -37,7 +38,8 @@ impl LineStart {
         mark_at(text, self.bytes, self.bytes)
     }
 
-    /// The key of a table, if the line has it. It is given whether the line is in the table, and whether the table is the top.
+    /// The place of a key of a table, if the line has that key. The caller says whether the line is in the table, and whether
+    /// the table is the top of the text.
     pub(crate) fn key_of<'a>(
         self,
         text: &'a [u8],
@@ -63,7 +65,7 @@ impl LineStart {
         Some(self.mark(text).with(pair))
     }
 
-    /// The beginning of the line after this one and its end.
+    /// The beginning of the next line, which comes after this line and its line feed.
     pub(crate) fn after(self, line: &[u8]) -> LineStart
         requires within { self.bytes + length line.now + 1 < 2 ^ 64 }
         requires depth { self.nest.depth ≤ self.bytes }

@@ -45,7 +45,7 @@ impl<'a> Marked<'a> {
         self.at(self.pair.key, self.pair.key_end)
     }
 
-    /// Another part of the same line.
+    /// The same line, with another part marked, by the numbers of bytes before its start and before its end.
     pub fn at(self, start: usize, end: usize) -> Marked<'a>
         ensures { result ≡ remarked self.entry (span start end) }
     {
@@ -58,7 +58,7 @@ impl<'a> Marked<'a> {
         self.with(pair)
     }
 
-    /// A key with its value in the same line.
+    /// The same line, with another key and its value marked.
     pub fn with(self, pair: Pair) -> Marked<'a>
         ensures { result ≡ remarked self.entry pair }
     {
@@ -78,7 +78,7 @@ impl<'a> Marked<'a> {
         self.at(indent, self.line.len())
     }
 
-    /// A line of a text, marked at its start. It may have white space and its end after it.
+    /// A line of a text, marked at its start. White space and the line feed at its end are left out.
     pub fn of_line(line: &'a [u8], before: usize, number: u64) -> Marked<'a>
         ensures line { result.line.now ≡ trim_end line.now }
         ensures before { result.before ≡ before }
@@ -101,7 +101,7 @@ impl<'a> Marked<'a> {
     }
 }
 
-/// The bytes from one place to another, as far as there are any.
+/// The bytes of a line from one place to another, as far as the line has them.
 fn bytes_between(bytes: &[u8], start: usize, end: usize) -> &[u8]
     ensures { result.now ≡ slice_range bytes.now start end }
 {
@@ -111,7 +111,7 @@ fn bytes_between(bytes: &[u8], start: usize, end: usize) -> &[u8]
     first_bytes(&bytes[start..], end - start)
 }
 
-/// The first n bytes, or all if there are fewer.
+/// The first n bytes of a text, or all of them if it has fewer.
 fn first_bytes(bytes: &[u8], most: usize) -> &[u8]
     ensures { result.now ≡ take most bytes.now }
 {
@@ -128,7 +128,7 @@ fn begins_character(byte: u8) -> bool
     byte < 128 || byte >= 192
 }
 
-/// How many bytes come before the first line feed.
+/// How many bytes of a text come before its first line feed; all of them if it has none.
 fn line_length(rest: &[u8]) -> usize
     ensures value { result ≡ length (take_while (λ byte. not (is_feed byte)) rest.now) }
     ensures within { result ≤ length rest.now }
@@ -136,7 +136,7 @@ fn line_length(rest: &[u8]) -> usize
     rest.iter().take_while(|byte| **byte != b'\n').count()
 }
 
-/// How many bytes come after the last line feed.
+/// How many bytes of a text come after its last line feed; all of them if it has none.
 fn bytes_after(before: &[u8]) -> usize
     ensures value { result ≡ length (take_while (λ byte. not (is_feed byte)) (reverse before.now)) }
     ensures within { result ≤ length before.now }

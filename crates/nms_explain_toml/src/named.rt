@@ -7,7 +7,8 @@ use crate::line_start::LineStart;
 use crate::marked::{Marked, line_from};
 use crate::toml_line::header_in;
 
-/// The place of a key in a table; the empty name is the top of the text. For a table that is a key of the top, it is its header.
+/// The place of a key in a table; the empty name is the top of the text. If the key is a table at the top, its place is its
+/// header.
 pub fn locate_named<'a>(text: &'a [u8], table: &[u8], key: &[u8]) -> Option<Marked<'a>>
     ensures { IfSome result (IsOf text.now) }
 {
@@ -29,7 +30,7 @@ pub fn locate_named<'a>(text: &'a [u8], table: &[u8], key: &[u8]) -> Option<Mark
     }
 }
 
-/// Whether the text after a line is in the table, given whether the line is.
+/// Whether the text after a line is in the named table, given whether the line is in it.
 fn is_in_after(line: &[u8], is_in: bool, table: &[u8]) -> bool {
     match header_in(line) {
         Some((name, _)) => !table.is_empty() && name == table,

@@ -17,7 +17,7 @@ enum Within {
     Comment,
 }
 
-/// The nesting of a place.
+/// How deep a place of a TOML text is, and what its next byte is read as.
 #[derive(Clone, Copy)]
 pub(crate) struct Nest {
     within: Within,
@@ -39,14 +39,14 @@ impl Nest {
         }
     }
 
-    /// Whether a header or a key may begin here, if a line does.
+    /// Whether a header or a key may begin at this place, if a line begins there.
     pub(crate) fn is_outer(self) -> bool
         ensures { result ≡ is_outer self }
     {
         self.is_plain() && self.depth == 0
     }
 
-    /// Whether a byte here is TOML syntax, if none is skipped.
+    /// Whether a byte at this place is outside quotes and comments, and so is TOML syntax. Bytes to skip are not considered.
     fn is_plain(self) -> bool
         ensures { result ≡ is_plain self.within }
     {
@@ -65,14 +65,14 @@ impl Nest {
         self.within == Within::Comment
     }
 
-    /// Whether a byte here is TOML syntax, with n brackets and braces open.
+    /// Whether a byte at this place is TOML syntax and not skipped, with n brackets and braces open.
     pub(crate) fn is_plain_at(self, depth: usize) -> bool
         ensures { result ≡ ((is_plain self.within && self.skipped == 0) && self.depth == depth) }
     {
         self.is_plain() && self.skipped == 0 && self.depth == depth
     }
 
-    /// The nesting after the first byte of the rest, which may be the end of a line.
+    /// The nesting after the first byte of the text that is left. That byte may be a line feed.
     pub(crate) fn after(self, rest: &[u8]) -> Nest
         requires { self.depth + 1 < 2 ^ 64 }
         ensures depth { result.depth ≤ self.depth + 1 }
@@ -110,7 +110,7 @@ impl Nest {
         self.entering(within, 0)
     }
 
-    /// The nesting after the first byte of the rest.
+    /// The nesting after the first byte of the text that is left of a line.
     pub(crate) fn after_byte(self, rest: &[u8]) -> Nest
         requires { self.depth + 1 < 2 ^ 64 }
         ensures value { result ≡ after_byte self rest.now }
@@ -166,7 +166,8 @@ impl Nest {
         self.at_depth(if self.depth == 0 { 0 } else { self.depth - 1 })
     }
 
-    /// The nesting after a byte of a text in these quotes, which have n bytes after the first. A backslash may escape a byte.
+    /// The nesting after a byte of a text in quotes. The closing quotes have n bytes after their first. In some quotes a
+    /// backslash may escape a byte.
     fn after_quoted(self, rest: &[u8], quotes: &[u8], more: u8, escapes: bool) -> Nest
         ensures value { result ≡ after_quoted quotes.now more escapes self rest.now }
         ensures depth { result.depth ≡ self.depth }
@@ -180,7 +181,8 @@ impl Nest {
         self
     }
 
-    /// The nesting in which the rest is read as the given kind, after the skipped bytes.
+    /// The nesting with the same depth. The next bytes are skipped, as many as given, and further bytes are read as the given
+    /// kind.
     fn entering(self, within: Within, skipped: u8) -> Nest
         ensures { result ≡ entered within skipped self }
     {

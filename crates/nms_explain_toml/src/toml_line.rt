@@ -6,7 +6,7 @@ ghost use Rattle.nms_explain_toml.specs.Nesting.{outer_nest};
 use crate::blanks::{trim, trim_end, trim_start};
 use crate::nest::Nest;
 
-/// The name in a header, and whether it has two brackets.
+/// The name in a header, and whether the header has two brackets; none if the line is no header.
 pub(crate) fn header_in(line: &[u8]) -> Option<(&[u8], bool)>
     ensures { option_map (λ found. (found.0.now, found.1)) result ≡ header_in line.now }
 {
@@ -20,7 +20,7 @@ pub(crate) fn header_in(line: &[u8]) -> Option<(&[u8], bool)>
     None
 }
 
-/// The name before the next bracket.
+/// The name in a header: the text before the closing bracket, without white space and quotes around it.
 fn name_in(text: &[u8]) -> Option<&[u8]>
     ensures { option_map (λ name. name.now) result ≡ name_in text.now }
 {
@@ -67,7 +67,8 @@ impl Pair {
     }
 }
 
-/// The place of a key with its value in a line that begins with it. If the key has points, it is all of the line.
+/// The place of a key with its value in a line that begins with it. If a point follows the key, the value is the text from the
+/// key on.
 pub(crate) fn pair_in(line: &[u8], key: &[u8]) -> Option<Pair>
     ensures value { result ≡ pair_in line.now key.now }
     ensures within { IfSome result (IsIn (length line.now)) }
@@ -142,7 +143,7 @@ fn quoted_key(quote: u8, text: &[u8]) -> Option<(&[u8], &[u8])>
     Some((&text[..end], &text[end + 1..]))
 }
 
-/// How many bytes come before the first byte with that value, if there is one.
+/// How many bytes of a text come before the first byte with the given value, if it has one.
 fn place_of(byte: u8, text: &[u8]) -> Option<usize>
     ensures value { result ≡ position (λ each. each == byte) text.now }
     ensures within { IfSome result (λ place. place < length text.now) }
@@ -184,7 +185,7 @@ pub(crate) fn value_in(rest: &[u8]) -> &[u8]
     trim_end(&rest[..value_length(rest)])
 }
 
-/// How many bytes come before the end of the value.
+/// How many bytes at the beginning of a text are its value and the white space after it.
 fn value_length(rest: &[u8]) -> usize
     ensures value { result ≡ value_length outer_nest rest.now }
     ensures within { result ≤ length rest.now }

@@ -26,7 +26,7 @@ impl Caps {
         }
     }
 
-    /// The cap of a fee at a lower price, in hundred-thousandths of the price.
+    /// The cap of a fee at a price below one dollar, in hundred-thousandths of the price.
     pub fn rate(self) -> u32
         ensures { result ≡ rate_cap self }
     {

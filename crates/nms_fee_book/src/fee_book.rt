@@ -31,8 +31,8 @@ impl Model for FeeBook {
 }
 
 impl FeeBook {
-    /// What a share costs at a participant's quotation, with its fee, in nanodollars: a charge makes a buyer's cost
-    /// more, and a seller's less negative.
+    /// What a share costs at a participant's quotation, with its fee, in nanodollars. A sale has a negative cost. A charge raises
+    /// a buyer's cost, and lowers what a seller receives.
     ///
     /// A place without a participant has no fee.
     pub fn unit_cost(&self, part: Part, side: OrderSide, price: Price) -> Money
@@ -44,7 +44,7 @@ impl FeeBook {
         Money::new(price_for(side, price).get() + fee)
     }
 
-    /// A book of each participant's fees, by place, which keep the caps. It takes no memory.
+    /// A book of the access fees of all participants, by place. No fee may exceed the caps. It takes no memory.
     pub fn new(caps: Caps, schedules: Vec<FeeSchedule>) -> Self
         requires { AreCapped caps schedules.items }
         ensures { result ≡ record { caps = caps; schedules = schedules.items } }
@@ -52,7 +52,7 @@ impl FeeBook {
         FeeBook { caps, schedules }
     }
 
-    /// The caps that each fee keeps.
+    /// The caps that no fee of the book exceeds.
     pub fn caps(&self) -> Caps
         ensures { result ≡ self.now.caps }
     {
@@ -73,7 +73,7 @@ impl FeeBook {
         }
     }
 
-    /// The fees of a participant.
+    /// The access fees of a participant. They are 0 for a place without a participant.
     fn schedule(&self, part: Part) -> FeeSchedule
         ensures value { result ≡ schedule_at self.now part }
         ensures capped { IsCapped self.now.caps result }
@@ -85,7 +85,7 @@ impl FeeBook {
     }
 }
 
-/// What a share costs before fees, in nanodollars.
+/// What a share costs before fees, in nanodollars: the price for a buyer, less than 0 for a seller.
 fn price_for(side: OrderSide, price: Price) -> Money
     ensures price { result ≡ price_on side price }
     ensures low { negsuc 9999999999999999 ≤ℤ result }

@@ -1,6 +1,6 @@
 //! The access fees of one participant.
 
-/// The access fees of a participant (17 CFR 242.610(c)). A negative number is a rebate. Its book's caps apply.
+/// The access fees of a participant (17 CFR 242.610(c)). A negative number is a rebate. The caps of the fee book apply.
 #[derive(Clone, Copy)]
 pub struct FeeSchedule {
     /// Nanodollars for a share, at a price of one dollar or more: -`MOST_FEE` to `Caps::fee`.

@@ -6,14 +6,14 @@ use std::collections::LinkedList;
 pub struct Sent {
     /// The feed.
     pub feed: Feed,
-    /// The changes that were sent for it, in order.
+    /// The changes that were sent for the feed, in order.
     pub changes: LinkedList<Change>,
 }
 
 /// For which feeds a pass may send, and whether it may take.
 pub struct Known {
-    /// The changes that were sent for each feed for which it may send.
+    /// The changes that were sent for each feed for which the pass may send.
     pub sent: LinkedList<Sent>,
-    /// The changes that were taken, if it may take.
+    /// The changes that were taken, if the pass may take.
     pub taken: Option<LinkedList<Marked>>,
 }

@@ -46,7 +46,7 @@ pub fn open_lane(
     Ok((ends, taker))
 }
 
-/// Cuts a pass off the first one for each of the first feeds, in order.
+/// Splits one pass off the lane's first pass for each of the first feeds, in order of feed.
 fn cut_senders(
     alloc: Global,
     line: &Arc<Line>,
@@ -69,7 +69,8 @@ fn cut_senders(
     Ok(ends)
 }
 
-/// Cuts a pass off the first one for the feed at a place, which is the first feed that is still with it.
+/// Splits a pass off the lane's first pass for the feed at a place. That has to be the first feed that still belongs to the
+/// first pass.
 fn cut_sender(line: &Arc<Line>, pass: &mut LinePass, place: u8) -> Result<Sender, LaneFault>
     requires place { place < MOST_FEEDS }
     requires of_line { IsPassOf line.now.value pass.old }
@@ -149,7 +150,7 @@ fn join(senders: Vec<Sender>, taker: Taker)
     line.learn_as::<Tallies>(&mut pass);
 }
 
-/// Takes in what a sender knows.
+/// Adds what a sender knows about the lane's queue to what a pass knows.
 fn join_sender(line: &Line, pass: &mut LinePass, sender: Sender)
     requires of_line { IsPassOf line.now pass.old }
     requires one_lane { sender.lane ≡ pass.old.table_id }

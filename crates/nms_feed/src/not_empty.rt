@@ -7,6 +7,6 @@ use crate::taker::Taker;
 pub struct NotEmpty {
     /// The senders, in order of feed.
     pub senders: Vec<Sender>,
-    /// The lane's other end.
+    /// The end of the lane at which changes are taken.
     pub taker: Taker,
 }

@@ -24,7 +24,7 @@ pub struct Packed {
     feed: Feed,
 }
 
-/// Which kind of change it is.
+/// The kind of a change in the lane's queue.
 #[derive(Clone, Copy)]
 pub(crate) enum Kind {
     Quote,
@@ -114,7 +114,7 @@ impl Packed {
         }
     }
 
-    /// The change.
+    /// The change without the mark of its feed.
     pub(crate) fn change(&self) -> Change
         ensures change { result ≡ self.now.change }
     {

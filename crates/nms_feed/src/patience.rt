@@ -4,22 +4,22 @@ use std::thread::Parker;
 use std::time::Duration;
 use std::{hint, thread};
 
-/// How many turns a thread spins first. This product's own rule.
+/// How many turns a waiting thread spins first. This product's own rule.
 const MOST_SPINS: u32 = 16;
-/// In how many turns after those it lets other threads run. This product's own rule.
+/// In how many turns after its spins a waiting thread lets other threads run. This product's own rule.
 const MOST_YIELDS: u32 = 2;
-/// How many microseconds it rests in the turn after those. This product's own rule.
+/// How many microseconds a waiting thread rests in its first turn of rest. This product's own rule.
 const SHORTEST_REST: u32 = 16;
-/// How many microseconds it rests at most in a turn. This product's own rule.
+/// How many microseconds a waiting thread rests at most in one turn. This product's own rule.
 const LONGEST_REST: u32 = 1024;
 
 /// How long a thread has waited for another one so far, which decides how it waits next. It spins, then it lets others run,
 /// then it rests, each time twice as long. It checks between two turns, and no thread wakes it. No proof relies on it.
 #[derive(Clone, Copy)]
 pub struct Patience {
-    /// How many turns it waited without a rest.
+    /// How many turns the thread has waited without a rest.
     turns: u32,
-    /// How long it rests next, in microseconds.
+    /// How long the thread rests next, in microseconds.
     rest: u32,
 }
 
@@ -32,12 +32,12 @@ impl Patience {
         }
     }
 
-    /// Shortens the next rest, but keeps that the thread waited.
+    /// Makes the next rest the shortest one. A thread that already rests between its checks does not spin again.
     pub fn calm(&mut self) {
         self.rest = SHORTEST_REST;
     }
 
-    /// Waits a turn.
+    /// Waits one turn: the thread spins, lets other threads run, or rests.
     pub fn wait<R: Wait>(&mut self, rt: &R) {
         if self.turns < MOST_SPINS {
             self.turns += 1;

@@ -17,7 +17,7 @@ pub struct Sender {
     pub(crate) line: Arc<Line, Global>,
     pub(crate) pass: LinePass,
     pub(crate) feed: Feed,
-    /// How many changes were sent.
+    /// How many changes the sender has sent.
     pub(crate) sent: u64,
 }
 
@@ -41,7 +41,7 @@ impl Sender {
         self.feed
     }
 
-    /// How many changes were sent.
+    /// How many changes the sender has sent.
     pub(crate) fn count(&self) -> u64
         ensures count { result ≡ length self.now.sent }
         ensures within { result ≤ MOST_SENT }

@@ -7,7 +7,7 @@ ghost use Rattle.nms_feeds.specs.Streams.{no_counts};
 pub struct FeedCounts {
     /// How many records were read, at most 2^40.
     pub records: u64,
-    /// How many of them were refused. Each of the others gave a change, which was sent.
+    /// How many records were refused. Each of the other records gave a change, which was sent.
     pub refused: u64,
 }
 

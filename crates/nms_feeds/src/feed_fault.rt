@@ -19,7 +19,7 @@ pub enum FeedFault {
     Refused {
         /// The record's number in its feed, counted from 1.
         number: u64,
-        /// Its fault.
+        /// Why the record was refused.
         fault: LineFault,
     },
 }

@@ -45,9 +45,10 @@ pub fn send_stream<W: Wait, R: Read + Drop, O: FeedWatch>(
     ensures counted { IsCounted sender.new.sent counts.new }
     // All records of the complete lines were read. Only the changes that they give were sent, in order.
     ensures read { OnOk result (HasRead setup.now.roster sender.old.feed (option_map whole_lines (R.remaining source)) sender.old.sent sender.new.sent counts.old counts.new) }
-    // The same holds for the first records.
+    // After a fault, only some first records of the complete lines may have been read. Only the changes that they give were
+    // sent, in order.
     ensures begun { OnErr result (HasBegun setup.now.roster sender.old.feed (option_map whole_lines (R.remaining source)) sender.old.sent sender.new.sent counts.old counts.new) }
-    // A refused record ends the reading only if the caller asked for it, and then none is skipped.
+    // A refused record ends the reading only if the caller asked for that. Then no refused record is skipped.
     ensures strict { strict ≡ true → counts.new.refused ≡ counts.old.refused }
     ensures refused { IfErr result (IsRefusedAt setup.now.roster sender.old.feed (option_map whole_lines (R.remaining source)) counts.old strict) }
 {
@@ -65,7 +66,7 @@ pub fn send_stream<W: Wait, R: Read + Drop, O: FeedWatch>(
     )
 }
 
-/// Sends the changes that a reader's records give. Each is read into the row.
+/// Sends the changes that a reader's records give. Each record is read into the given row.
 fn send_rows<W: Wait, S: Read, O: FeedWatch>(
     rt: &W,
     setup: &Setup,

@@ -17,7 +17,7 @@ use nms_units::MOST_LOT;
 use std::alloc::Global;
 use toml::{Table, Value};
 
-/// The fault of the smaller number of two findings.
+/// The fault with the smaller number, if two faults of a setup are found. If only one is found, it is that one.
 fn lesser(first: Option<SetupFault>, second: Option<SetupFault>) -> Option<SetupFault>
     ensures { result ≡ lesser first second }
 {
@@ -33,7 +33,7 @@ fn lesser(first: Option<SetupFault>, second: Option<SetupFault>) -> Option<Setup
     }
 }
 
-/// The fault of least number of all findings.
+/// The fault with the smallest number among all faults that are found.
 fn least(found: &[Option<SetupFault>]) -> Option<SetupFault>
     ensures { result ≡ least found.now }
 {
@@ -44,7 +44,7 @@ fn least(found: &[Option<SetupFault>]) -> Option<SetupFault>
     least
 }
 
-/// The fault of a table's keys: there is one that is not known.
+/// The fault of a table that has a key that a setup does not know.
 fn other_key_fault(table: &Table, level: Level) -> Option<SetupFault>
     ensures { result ≡ other_key_fault level (table_view table.now) }
 {
@@ -55,7 +55,7 @@ fn other_key_fault(table: &Table, level: Level) -> Option<SetupFault>
     }
 }
 
-/// The fault of a required number from `low` to `high`.
+/// The fault of a required number, which has to be from `low` to `high`. `None` if it has no fault.
 fn number_fault(table: &Table, key: &str, low: i64, high: i64) -> Option<SetupFault>
     ensures { result ≡ key_fault (range_fault low high) key.now (table_view table.now) }
 {
@@ -65,7 +65,7 @@ fn number_fault(table: &Table, key: &str, low: i64, high: i64) -> Option<SetupFa
     }
 }
 
-/// The fault of a number from `low` to `high`.
+/// The fault of a value that has to be a number from `low` to `high`. `None` if it has no fault.
 pub fn range_fault(value: &Value, low: i64, high: i64) -> Option<SetupFault>
     ensures { result ≡ range_fault low high (view value.now) }
 {
@@ -79,7 +79,7 @@ pub fn range_fault(value: &Value, low: i64, high: i64) -> Option<SetupFault>
     }
 }
 
-/// The fault of a required fee or rate. It is at most `most` either way, and not over its cap.
+/// The fault of a required fee or rate. It may be at most `most`, as a charge or a rebate, and may not exceed its cap.
 fn charge_fault(table: &Table, key: &str, most: u32, cap: u32) -> Option<SetupFault>
     ensures { result ≡ key_fault (cap_fault most cap) key.now (table_view table.now) }
 {
@@ -89,7 +89,7 @@ fn charge_fault(table: &Table, key: &str, most: u32, cap: u32) -> Option<SetupFa
     }
 }
 
-/// The fault of a fee or rate. It is at most `most` either way, and not over its cap (17 CFR 242.610(c)).
+/// The fault of a fee or rate. It may be at most `most`, as a charge or a rebate, and may not exceed its cap (17 CFR 242.610(c)).
 pub fn cap_fault(value: &Value, most: u32, cap: u32) -> Option<SetupFault>
     ensures { result ≡ cap_fault most cap (view value.now) }
 {
@@ -106,7 +106,7 @@ pub fn cap_fault(value: &Value, most: u32, cap: u32) -> Option<SetupFault>
     }
 }
 
-/// The fault of a required feed, one of the first `count` feeds.
+/// The fault of a required feed, which has to be the letter of one of the first `count` feeds.
 fn letter_fault(table: &Table, key: &str, count: u8) -> Option<SetupFault>
     ensures { result ≡ key_fault (feed_fault count) key.now (table_view table.now) }
 {
@@ -116,7 +116,7 @@ fn letter_fault(table: &Table, key: &str, count: u8) -> Option<SetupFault>
     }
 }
 
-/// The fault of a required name of a row.
+/// The fault of the required name of a participant or a symbol.
 fn name_fault(table: &Table, section: Section) -> Option<SetupFault>
     ensures { result ≡ key_fault (name_fault (is_name_in section)) (codes "name") (table_view table.now) }
 {
@@ -142,7 +142,7 @@ fn is_name_in(section: Section, name: &[u8]) -> bool
     }
 }
 
-/// The fault of an element of one of the two arrays.
+/// The fault of one participant or one symbol of a setup. It has to be a table.
 fn row_fault(row: &Value, chosen: Choices, section: Section) -> Option<SetupFault>
     ensures { result ≡ row_fault chosen section (view row.now) }
 {
@@ -152,7 +152,7 @@ fn row_fault(row: &Value, chosen: Choices, section: Section) -> Option<SetupFaul
     }
 }
 
-/// The fault of a table of one of the two arrays, by what the document chooses.
+/// The fault of the table of one participant or one symbol, by the caps and the number of feeds that the document chooses.
 fn table_fault(table: &Table, chosen: Choices, section: Section) -> Option<SetupFault>
     ensures { result ≡ least (table_findings chosen section (table_view table.now)) }
 {
@@ -172,7 +172,7 @@ fn table_fault(table: &Table, chosen: Choices, section: Section) -> Option<Setup
     }
 }
 
-/// The least fault of the elements of one of the two arrays.
+/// The fault with the smallest number among all participants or all symbols, each looked at by itself.
 fn each_row_fault(rows: &[Value], chosen: Choices, section: Section) -> Option<SetupFault>
     ensures { result ≡ least (map (row_fault chosen section) (map view rows.now)) }
 {
@@ -183,7 +183,7 @@ fn each_row_fault(rows: &[Value], chosen: Choices, section: Section) -> Option<S
     least
 }
 
-/// The fault of an array's length.
+/// The fault of the number of participants or symbols: there is none, or there are too many.
 fn count_fault(section: Section, count: usize) -> Option<SetupFault>
     ensures { result ≡ count_fault (most_of section) count }
 {
@@ -200,7 +200,7 @@ fn count_fault(section: Section, count: usize) -> Option<SetupFault>
     }
 }
 
-/// The fault of the elements of one of the two arrays.
+/// The fault of the list of participants or symbols: its length, a repeated name, or a fault of one of its elements.
 fn rows_fault(
     alloc: Global,
     rows: &[Value],
@@ -222,7 +222,7 @@ fn rows_fault(
     ]))
 }
 
-/// The fault of one of the two arrays.
+/// The fault of the array of participants or symbols, which is required.
 fn array_fault(
     alloc: Global,
     document: &Table,
@@ -242,7 +242,7 @@ fn array_fault(
     }
 }
 
-/// The fault of least number anywhere in a document.
+/// The fault with the smallest number anywhere in a setup's document.
 pub(crate) fn document_fault(
     alloc: Global,
     document: &Table,

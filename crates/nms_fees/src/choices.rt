@@ -11,10 +11,10 @@ use nms_fee_book::Caps;
 use nms_quote::MOST_FEEDS;
 use toml::{Table, Value};
 
-/// The choices by which optional keys set the bounds of others.
+/// What a document chooses by its optional keys, which set the bounds of other keys.
 #[derive(Clone, Copy)]
 pub struct Choices {
-    /// The caps that fees keep: those of 2005 if the document names none.
+    /// The caps that fees may not exceed: those of 2005 if the document names none.
     pub caps: Caps,
     /// The number of feeds, 1 to `MOST_FEEDS` (8): two if the document does not say.
     pub feeds: u8,
@@ -53,7 +53,7 @@ pub(crate) fn feeds_fault(document: &Table) -> Option<SetupFault>
     }
 }
 
-/// What a document chooses.
+/// The caps and the number of feeds that a document chooses.
 pub fn choices_in(document: &Table) -> Choices
     ensures { result ≡ choices_in (table_view document.now) }
 {

@@ -38,7 +38,7 @@ pub fn feed_fault(value: &Value, count: u8) -> Option<SetupFault>
     }
 }
 
-/// Whether a text names one of the first `count` feeds.
+/// Whether a text is the letter of one of the first `count` feeds.
 fn is_feed(count: u8, text: &str) -> bool
     ensures { result ≡ is_feed count text.now }
 {

@@ -27,9 +27,9 @@ pub use toml_table::{is_participant_key, is_symbol_key, is_top_key, rows_at, row
 
 /// The fewest changes that a setup's queue may hold.
 pub const LEAST_QUEUE: usize = 2;
-/// The number of feeds if a setup does not say it.
+/// The most changes that a setup's queue may hold.
 pub const MOST_QUEUE: usize = 1024;
-/// The feeds of a setup that does not say how many it has.
+/// The number of feeds of a setup that does not say how many it has.
 pub const USUAL_FEEDS: u8 = 2;
 /// The most desks that a setup may have.
 pub const MOST_DESKS: u8 = 16;

@@ -19,7 +19,7 @@ pub(crate) fn has_repeat(alloc: Global, rows: &[Value]) -> Result<bool, SetupFau
     repeats(&mut seen, rows)
 }
 
-/// As `has_repeat`, with an empty set for the names seen.
+/// Whether a name is repeated among the elements of an array. The caller gives an empty set, in which the names seen are kept.
 fn repeats<'a>(seen: &mut IndexSet<&'a str>, rows: &'a [Value]) -> Result<bool, SetupFault>
     requires empty { seen.old.keys ≡ [] }
     ensures found { IfOk result (λ found. found ≡ has_repeat (filter_map name_in (map view rows.now))) }

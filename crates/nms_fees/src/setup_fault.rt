@@ -12,7 +12,7 @@ pub enum SetupFault {
     NotToml,
     /// C2: a required key is absent, at the top or in a table of the two arrays.
     Missing,
-    /// C3: there is another key.
+    /// C3: there is a key that a setup does not know.
     UnknownKey,
     /// C4: a name is a text that does not have its form, or is repeated in its array.
     BadName,
@@ -46,7 +46,7 @@ impl SetupFault {
         }
     }
 
-    /// The exit status of a program that ends with it: 3 for the setup, 5 for memory.
+    /// The exit status of a program that ends with this fault: 3 for the setup, 5 for memory.
     pub fn status(self) -> u8
         ensures { result ≡ status_of self }
     {

@@ -47,7 +47,8 @@ pub fn read_setup(alloc: Global, text: &str) -> Result<Setup, SetupFault>
 
 /// Reads a setup from the bytes of a file. Bytes that are not UTF-8 are not a TOML document.
 ///
-/// The error is as for `read_setup`.
+/// The error is the fault of least number anywhere in the text. If memory was short, `NoMemory` may come instead of any later
+/// answer.
 pub fn read_setup_bytes(alloc: Global, bytes: &[u8]) -> Result<Setup, SetupFault>
     ensures read { IfOk result (λ setup. IsSetupOf bytes.now setup) }
     ensures refused { IfErr result (λ fault. fault ≢ SetupFault.NoMemory → IsRefused bytes.now fault) }
@@ -78,7 +79,7 @@ fn settings_of(alloc: Global, document: &Table) -> Result<Setup, SetupFault>
     })
 }
 
-/// The roster that the two arrays give.
+/// The roster that the arrays of participants and symbols give.
 fn roster_of(alloc: Global, participants: &[Value], symbols: &[Value]) -> Result<Roster, SetupFault>
     requires participants { AreSound section.Participant (map view participants.now) }
     requires symbols { AreSound section.Symbol (map view symbols.now) }
@@ -95,7 +96,7 @@ fn roster_of(alloc: Global, participants: &[Value], symbols: &[Value]) -> Result
     }
 }
 
-/// Adds the elements of the two arrays to an empty roster.
+/// Adds the participants and the symbols of two arrays to an empty roster.
 fn fill_roster(
     roster: &mut Roster,
     participants: &[Value],
@@ -164,7 +165,7 @@ fn add_symbol(roster: &mut Roster, row: &Value) -> Result<(), SetupFault>
     }
 }
 
-/// The round lot of a symbol's row.
+/// The round lot that the table of a symbol gives.
 fn lot_of(row: &Value) -> Lot
     requires { IsSound section.Symbol (view row.now) }
     ensures { result ≡ (symbol_of (view row.now)).1 }
@@ -172,7 +173,7 @@ fn lot_of(row: &Value) -> Lot
     Lot::new(number_in(row, "lot") as u16).unwrap()
 }
 
-/// The fees of each participant's row, which keep the caps that are chosen.
+/// The access fees that the tables of the participants give, under the caps that the document chooses.
 fn fees_of(alloc: Global, chosen: Choices, rows: &[Value]) -> Result<FeeBook, SetupFault>
     requires { rows_fault chosen section.Participant (map view rows.now) ≡ None }
     ensures value { IfOk result (λ fees. fees ≡ record { caps = chosen.caps; schedules = map schedule_of (map view rows.now) }) }
@@ -187,7 +188,7 @@ fn fees_of(alloc: Global, chosen: Choices, rows: &[Value]) -> Result<FeeBook, Se
     Ok(FeeBook::new(chosen.caps, schedules))
 }
 
-/// The fees of a participant's row.
+/// The access fees that the table of a participant gives.
 fn schedule_of(row: &Value) -> FeeSchedule
     ensures { result ≡ schedule_of (view row.now) }
 {
@@ -197,7 +198,7 @@ fn schedule_of(row: &Value) -> FeeSchedule
     }
 }
 
-/// The text at a key of a row; an empty one if there is none.
+/// The text at a key of an element; an empty one if there is no text.
 fn text_in<'a>(row: &'a Value, key: &str) -> &'a str
     ensures { result.now ≡ text_at key.now (table_of (view row.now)) }
 {
@@ -207,7 +208,7 @@ fn text_in<'a>(row: &'a Value, key: &str) -> &'a str
     }
 }
 
-/// The number at a key of a row; 0 if there is none.
+/// The number at a key of an element; 0 if there is no number.
 fn number_in(row: &Value, key: &str) -> i64
     ensures { result ≡ number_at key.now (table_of (view row.now)) }
 {

@@ -9,14 +9,14 @@ ghost use Rattle.nms_fees.specs.Setup.{text_at, number_at, count_at, rows_at};
 use crate::level::Level;
 use toml::{Table, Value};
 
-/// The value at a key.
+/// The value that a table has at a key. `None` if it does not have the key.
 pub fn value_at<'a>(table: &'a Table, key: &str) -> Option<&'a Value>
     ensures { option_map (λ value. view value.now) result ≡ get_member key.now (table_view table.now) }
 {
     table.get(key)
 }
 
-/// The text at a key; an empty one if there is none.
+/// The text that a table has at a key; an empty one if there is no text.
 pub(crate) fn text_at<'a>(table: &'a Table, key: &str) -> &'a str
     ensures { result.now ≡ text_at key.now (table_view table.now) }
 {
@@ -29,7 +29,7 @@ pub(crate) fn text_at<'a>(table: &'a Table, key: &str) -> &'a str
     }
 }
 
-/// The number at a key; 0 if there is none.
+/// The number that a table has at a key; 0 if there is no number.
 pub(crate) fn number_at(table: &Table, key: &str) -> i64
     ensures { result ≡ number_at key.now (table_view table.now) }
 {
@@ -42,7 +42,7 @@ pub(crate) fn number_at(table: &Table, key: &str) -> i64
     }
 }
 
-/// The size of the number at a key; 0 if there is none.
+/// The number that a table has at a key, without its sign; 0 if there is no number.
 pub(crate) fn count_at(table: &Table, key: &str) -> u64
     ensures { result ≡ count_at key.now (table_view table.now) }
 {
@@ -72,7 +72,7 @@ pub fn rows_at<'a>(table: &'a Table, key: &str) -> &'a [Value]
     }
 }
 
-/// Whether a table has a key other than those known there.
+/// Whether a table has a key that a setup does not know at that level.
 pub(crate) fn has_other_key(table: &Table, level: Level) -> bool
     ensures { result ≡ list_any (λ key. not (is_known level key)) (keys_in (table_view table.now)) }
 {
@@ -107,14 +107,14 @@ pub fn is_top_key(key: &str) -> bool
         || key == "symbol"
 }
 
-/// Whether a key may be in an element of the participants.
+/// Whether a key may be in the table of a participant.
 pub fn is_participant_key(key: &str) -> bool
     ensures { result ≡ is_participant_key key.now }
 {
     key == "name" || key == "feed" || key == "fee" || key == "rate"
 }
 
-/// Whether a key may be in an element of the symbols.
+/// Whether a key may be in the table of a symbol.
 pub fn is_symbol_key(key: &str) -> bool
     ensures { result ≡ is_symbol_key key.now }
 {

@@ -15,9 +15,10 @@ use std::alloc::Global;
 /// and the fees of the setup are taken.
 ///
 /// `Ok` means that the plan is lawful on that version, that no lawful plan fills more shares, and that none fills as many for
-/// less. `VersionBeyondTape` comes if and only if the version has more changes than there are. Else `Doubt` has what `confirm`
-/// doubts. `NoMemory` comes only if there is no memory for a board, which is made once. Each change of the version is read
-/// once. It takes 0 to 10,000,000 changes of the setup's roster, and the order's symbol is on that roster.
+/// less. `VersionBeyondTape` comes if and only if the version has more changes than there are. Else `Doubt` says why `confirm`
+/// does not confirm the plan. `NoMemory` comes only if there is no memory for a board, which is made once. Each change of the
+/// version is read once. The audit takes 0 to 10,000,000 changes of the setup's roster, and the order's symbol is on that
+/// roster.
 pub fn audit(
     alloc: Global,
     setup: &Setup,

@@ -19,7 +19,7 @@ use std::io::Read;
 pub(crate) enum ViewFault {
     /// The file of changes is no tape.
     Changes(ChangesFault),
-    /// No board was made.
+    /// There was no memory for a board.
     Board(BoardFault),
 }
 

@@ -38,8 +38,8 @@ pub fn an_accepted_plan_reads_as_written(
     cuts_are_in_range(certificate.as_slice());
 }
 
-/// Plans an order as `plan` does. `read_plan` reads back what `write_plan` writes for the answer, if the view's version has at
-/// most 10,000,000 changes and the order is of the roster.
+/// Plans an order on a view, and returns the plan with its certificate. `read_plan` reads back what `write_plan` writes for
+/// them. This holds if the view's version has at most 10,000,000 changes and the order is of the roster.
 pub fn a_planned_order_reads_as_written(
     roster: &Roster,
     view: &View,
@@ -57,7 +57,7 @@ pub fn a_planned_order_reads_as_written(
     (plan, certificate)
 }
 
-/// A leg's price and shares are in range, as their types say.
+/// Shows the prover that the price and the shares of each leg are in range, as their types say.
 fn legs_are_in_range(legs: &[Leg])
     ensures { All (λ leg. IsPriceInRange leg.price × (leg.shares ≤ MOST_SHARES)) legs.now }
 {
@@ -67,7 +67,7 @@ fn legs_are_in_range(legs: &[Leg])
     }
 }
 
-/// A cut's price is in range, as its type says.
+/// Shows the prover that the price of each cut is in range, as its type says.
 fn cuts_are_in_range(cuts: &[Cut])
     ensures { All (λ cut. IsPriceInRange cut.price) cuts.now }
 {

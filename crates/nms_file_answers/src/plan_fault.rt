@@ -21,7 +21,7 @@ pub enum PlanFault {
 }
 
 impl PlanFault {
-    /// The code of the fault: that of the file's fault, `B1`, `L12` or `L13`.
+    /// The code of the fault: the code of the file's fault, `B1`, `L12` or `L13`.
     pub fn code(self) -> &'static str
         ensures { result.now ≡ code_of_plan self }
     {
@@ -32,7 +32,7 @@ impl PlanFault {
         }
     }
 
-    /// The exit status of a program that ends with it: that of the file's or the text's fault, 5 for the board.
+    /// The exit status of a program that ends with this fault: the status of the file's or the text's fault, 5 for the board.
     pub fn status(self) -> u8
         ensures { result ≡ status_of_plan self }
     {

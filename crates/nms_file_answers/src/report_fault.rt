@@ -21,7 +21,7 @@ pub enum ReportFault {
 }
 
 impl ReportFault {
-    /// The code of the fault: that of the file's fault, `B1`, `E2` or `E4`.
+    /// The code of the fault: the code of the file's fault, `B1`, `E2` or `E4`.
     pub fn code(self) -> &'static str
         ensures { result.now ≡ code_of_report self }
     {
@@ -33,7 +33,7 @@ impl ReportFault {
         }
     }
 
-    /// The exit status of a program that ends with it: that of the file's fault, 1 for the writer, 5 for memory.
+    /// The exit status of a program that ends with this fault: the status of the file's fault, 1 for the writer, 5 for memory.
     pub fn status(self) -> u8
         ensures { result ≡ status_of_report self }
     {

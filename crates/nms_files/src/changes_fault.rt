@@ -29,7 +29,8 @@ impl ChangesFault {
         }
     }
 
-    /// The exit status of a program that ends with it: that of the file, or 6 for a line or the tape's length.
+    /// The exit status of a program that ends with this fault: the status of the file's fault, or 6 for a line or the tape's
+    /// length.
     pub fn status(self) -> u8
         ensures { result ≡ status_of_changes self }
     {

@@ -7,7 +7,7 @@ use std::alloc::Global;
 use std::io;
 use std::io::{ErrorKind, Read};
 
-/// All bytes that a source still has, if these are at most `most`. At most one byte more is read.
+/// All bytes that a source still has, if there are at most `most` of them. At most one byte more is read.
 pub fn read_within<R: Read + Drop>(
     alloc: Global,
     source: R,

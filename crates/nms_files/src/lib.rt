@@ -1,4 +1,5 @@
-//! The files that the quote board reads: those of changes, of orders, of a feed. Also the arguments for an order.
+//! The files that the quote board reads: files of changes, of orders and of a feed. The arguments of a call that give an order
+//! are read too.
 #![tactic(auto)]
 
 mod change_file;

@@ -11,7 +11,7 @@ use nms_lines::{ByteRecord, Reader, RecordFault, open_records, open_row, read_ne
 use std::alloc::Global;
 use std::io::Read;
 
-/// A thing that a line of a file gives, if all its lines give one kind of thing.
+/// A thing that each line of a file gives, such as a change or an order. All lines of one file give the same kind of thing.
 pub trait FileItem: Sized + Drop {
     /// Why a line is refused.
     type Fault: Drop;

@@ -57,7 +57,7 @@ impl FileItem for DeskOrder {
     }
 }
 
-/// The order that a line of such a file gives.
+/// The order that a line of a file of orders gives, or why the line is refused.
 fn read_order(row: &ByteRecord, setup: &Setup) -> Result<DeskOrder, LineFault>
     ensures line { result ≡ order_reading setup.now (fields_of row.now) }
     ensures there { IfOk result (IsOrderFor setup.now) }

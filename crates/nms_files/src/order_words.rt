@@ -26,7 +26,7 @@ pub fn order_of(
     order_with(roster, side, sym, shares, limit, manual, self_help)
 }
 
-/// The order that those arguments give, with these participants.
+/// The order that a side, a symbol, shares and a limit give, with the participants against which self-help is declared.
 fn order_with(
     roster: &Roster,
     side: &str,

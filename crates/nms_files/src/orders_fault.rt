@@ -26,7 +26,7 @@ impl OrdersFault {
         }
     }
 
-    /// The exit status of a program that ends with it: that of the file, or 6 for a line.
+    /// The exit status of a program that ends with this fault: the status of the file's fault, or 6 for a line.
     pub fn status(self) -> u8
         ensures { result ≡ status_of_orders self }
     {

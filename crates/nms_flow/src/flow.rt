@@ -30,14 +30,14 @@ use std::marker::Model;
 
 /// The machine that consolidates, in one thread. This product's own rule.
 ///
-/// The board's rows and all of the queue are made with it. Later only a taking can be out of memory.
+/// The room for the board's rows and for the queue is made with the machine. Later only a taking can be out of memory.
 #[derive(Drop)]
 pub struct Flow {
     /// The published version.
     board: Boards,
     /// The changes sent since the last publishing, each with its feed. First come those taken to the tape, then the queue.
     changes: VecDeque<Marked>,
-    /// How many of them were taken.
+    /// How many of these changes were taken to the tape.
     pending: usize,
     most_queued: usize,
     most_taken: u64,
@@ -135,9 +135,9 @@ impl Flow {
         Ok(version + 1)
     }
 
-    /// Takes changes from the queue's front to the tape until a taking is refused, and returns the refusal, as `take` does. It
-    /// raises one count for all of them together. `NoMemory` leaves the machine as it was. It comes before the first taking, if
-    /// that would have succeeded.
+    /// Takes changes from the queue's front to the tape until a taking is refused, and returns the fault of that taking. It
+    /// raises one count for all of these changes together. `NoMemory` leaves the machine as it was. It comes before the first
+    /// taking, if that would have succeeded.
     pub fn take_all(&mut self) -> StepFault
         ensures run { TakesUntil result self.old self.new }
         ensures sends_nothing { result ≢ StepFault.QueueFull }
@@ -243,7 +243,7 @@ impl Flow {
         self.answer(step)
     }
 
-    /// Makes one step, by its method.
+    /// Makes one step, through the function for this kind of step.
     fn answer(&mut self, step: Step) -> Result<Reply, StepFault>
         requires { holds_step self.old.board.sizes step ≡ true }
         ensures went { WentOn self.old self.new (step, result) }
@@ -271,7 +271,7 @@ impl Flow {
     }
 }
 
-/// Applies the first changes of a queue in order.
+/// Applies the first changes of a queue to a board, in order.
 fn apply_first(board: &mut Boards, queue: &VecDeque<Marked>, count: usize)
     requires held { All (λ marked. holds board.old.sizes marked.change ≡ true) queue.now.items }
     requires there { count ≤ deque_len queue.now }
@@ -286,7 +286,7 @@ fn apply_first(board: &mut Boards, queue: &VecDeque<Marked>, count: usize)
     apply_all(board, &back[..count - first]);
 }
 
-/// Applies changes in order.
+/// Applies changes to a board, in order.
 fn apply_all(board: &mut Boards, changes: &[Marked])
     requires held { All (λ marked. holds board.old.sizes marked.change ≡ true) changes.now }
     requires room { board.old.applied + length changes.now ≤ MOST_CHANGES }
@@ -299,7 +299,7 @@ fn apply_all(board: &mut Boards, changes: &[Marked])
     }
 }
 
-/// Makes room for n changes. It can fail only if there was less room before.
+/// Makes room for n changes in a queue. It can fail only if there was less room before.
 fn make_room(queue: &mut VecDeque<Marked>, most: usize) -> Result<(), AllocError>
     requires { deque_len queue.old ≤ most }
     ensures items { queue.new.items ≡ queue.old.items }

@@ -21,7 +21,7 @@ pub enum Reply {
     Told {
         /// The desk that learned of it.
         desk: u8,
-        /// The version in changes, as in `Published`.
+        /// The version in changes, 0 to the setup's tape limit.
         version: u64,
     },
     /// The symbol's quotations in the published version.

@@ -17,7 +17,7 @@ pub enum Step {
     },
     /// Shows a desk one symbol of the published version.
     Look {
-        /// The desk.
+        /// The desk that looks at the symbol.
         desk: u8,
         /// The symbol that it looks at.
         sym: Sym,

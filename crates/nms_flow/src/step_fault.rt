@@ -5,7 +5,7 @@ ghost use Rattle.nms_flow.specs.Faults.{code_of};
 use std::fmt;
 use thiserror::Error;
 
-/// Why the machine refused a step, least number first. It is left as it was.
+/// Why the machine refused a step, least number first. The machine is left as it was.
 #[derive(Clone, Copy, Debug, PartialEq, Eq, Error)]
 pub enum StepFault {
     /// F2: a change was sent to a full queue.

@@ -14,7 +14,7 @@ use crate::side::sides_in;
 use csv::ByteRecord;
 use nms_quote::{Change, Feed, Roster};
 
-/// Reads `Q,part,sym,state,bid,bidshares,offer,offershares`.
+/// Reads the record of a participant's bid and offer in a symbol: `Q,part,sym,state,bid,bidshares,offer,offershares`.
 pub(crate) fn quote_line(
     row: &ByteRecord,
     roster: &Roster,
@@ -39,7 +39,7 @@ pub(crate) fn quote_line(
     }))
 }
 
-/// Reads `S,part,sym,state`.
+/// Reads the record of a new state of a participant's quotations in a symbol: `S,part,sym,state`.
 pub(crate) fn state_line(
     row: &ByteRecord,
     roster: &Roster,
@@ -57,7 +57,7 @@ pub(crate) fn state_line(
     Ok(Line::Change(Change::State { part, sym, state }))
 }
 
-/// Reads `X,part`.
+/// Reads the record of a participant that withdraws all its quotations: `X,part`.
 pub(crate) fn withdraw_line(
     row: &ByteRecord,
     roster: &Roster,
@@ -73,7 +73,8 @@ pub(crate) fn withdraw_line(
     Ok(Line::Change(Change::Withdraw { part }))
 }
 
-/// Reads `R,sym,lot` or `R,sym,AVG,price`. A round lot belongs to the first feed. The lot is checked last.
+/// Reads the record of a symbol's new round lot: `R,sym,lot` or `R,sym,AVG,price`. A round lot belongs to the first feed. The
+/// lot is checked last.
 pub(crate) fn lot_line(
     row: &ByteRecord,
     roster: &Roster,
@@ -91,7 +92,7 @@ pub(crate) fn lot_line(
     Ok(Line::Change(Change::Lot { sym, lot }))
 }
 
-/// Whether the source is a feed, and the owner of a record is another feed.
+/// Whether a record comes from a feed, and belongs to another feed.
 fn is_foreign(from: Reading, owner: Feed) -> bool
     ensures { result ≡ is_foreign from (Some owner) }
 {

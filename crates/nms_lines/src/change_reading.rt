@@ -11,7 +11,8 @@ use crate::line_reading::read_line;
 use csv::ByteRecord;
 use nms_quote::{Change, Feed, Roster};
 
-/// The change that a record of a file of changes gives. `UnknownKind` if it is of another kind.
+/// The change that a record of a file of changes gives. A record of any other kind, such as an order, is refused as
+/// `UnknownKind`.
 pub fn read_change(row: &ByteRecord, roster: &Roster) -> Result<Change, LineFault>
     ensures line { result ≡ change_reading roster.now (fields_of row.now) }
     ensures there { IfOk result (λ change. holds (sizes_of roster.now) change ≡ true) }

@@ -15,7 +15,7 @@ use crate::number::{desk_at, price_at, shares_at};
 use csv::ByteRecord;
 use nms_quote::{Order, Roster};
 
-/// Reads `L,desk`.
+/// Reads the record that reports the published version to a desk: `L,desk`.
 pub(crate) fn tell_line(row: &ByteRecord, from: Reading) -> Result<Line, PlacedFault>
     ensures line { result ≡ tell_reading from (fields_of row.now) }
     ensures of { brings from Kind.Tell ≡ true → (roster : Listing) → IfOk result (IsLineOf roster from) }
@@ -24,7 +24,7 @@ pub(crate) fn tell_line(row: &ByteRecord, from: Reading) -> Result<Line, PlacedF
     Ok(Line::Tell { desk })
 }
 
-/// Reads `N,desk,sym`.
+/// Reads the record of a desk that asks for the national best bid and offer of a symbol: `N,desk,sym`.
 pub(crate) fn best_line(
     row: &ByteRecord,
     roster: &Roster,
@@ -38,7 +38,7 @@ pub(crate) fn best_line(
     Ok(Line::Best { desk, sym })
 }
 
-/// Reads `E,desk,sym,price`.
+/// Reads the record of a desk that asks what a trade at a price trades through: `E,desk,sym,price`.
 pub(crate) fn through_line(
     row: &ByteRecord,
     roster: &Roster,
@@ -53,7 +53,8 @@ pub(crate) fn through_line(
     Ok(Line::Through { desk, sym, price })
 }
 
-/// Reads `O,desk,side,sym,shares,limit`, then the flag `M`, then the participants named.
+/// Reads the record of an order that a desk plans: `O,desk,side,sym,shares,limit`, then the flag `M`, then the participants
+/// that the order names.
 pub(crate) fn sweep_line(
     row: &ByteRecord,
     roster: &Roster,
@@ -73,7 +74,8 @@ pub(crate) fn sweep_line(
     Ok(Line::Sweep { desk, order })
 }
 
-/// The number of desks. A feed and a file of changes have none.
+/// The number of desks that the records of a source may name. It is 0 for a feed and for a file of changes, which have no
+/// records of desks.
 fn desks_of(from: Reading) -> u8
     ensures { result ≡ desks_of from }
 {

@@ -5,7 +5,7 @@ ghost use Rattle.nms_lines.specs.Layout.{field, is_text};
 
 use csv::ByteRecord;
 
-/// The field at a place; empty past the last.
+/// The field at a place of a record, counted from 0. It is empty if the record has no field there.
 #[tactic(auto, using(crate::proofs::FieldFacts::field_at_lem))]
 pub fn field(row: &ByteRecord, place: usize) -> &[u8]
     ensures { result.now ≡ field (fields_of row.now) place }

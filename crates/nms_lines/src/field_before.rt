@@ -119,7 +119,8 @@ fn amount_before(buf: &mut [u8], end: usize, amount: u128) -> usize
     }
 }
 
-/// Writes nanodollars of any number, as `amount_before` does.
+/// Writes any number of nanodollars as dollars with nine decimals so that they end at a place. Returns the place at which they
+/// start.
 #[cold]
 #[inline(never)]
 fn wide_before(buf: &mut [u8], end: usize, amount: u128) -> usize

@@ -44,7 +44,7 @@ pub fn push_money(out: &mut Vec<u8>, money: Money) -> Result<(), AllocError>
     out.extend_from_slice(&field[start..])
 }
 
-/// Ends a record.
+/// Ends a record with a line feed.
 pub fn end_record(out: &mut Vec<u8>) -> Result<(), AllocError>
     ensures { OnOk result (out.new.items ≡ out.old.items ++ 10 ∷ []) }
 {

@@ -49,7 +49,7 @@ fn kind_of_letter(letter: u8) -> Option<Kind>
     }
 }
 
-/// Whether the source has records of the kind.
+/// Whether a source may have records of a kind.
 fn brings(from: Reading, kind: Kind) -> bool
     ensures { result ≡ brings from kind }
 {
@@ -75,7 +75,7 @@ fn is_change_kind(kind: Kind) -> bool
     }
 }
 
-/// Whether a record of the kind has `fields` fields.
+/// Whether a record of a kind may have this number of fields.
 pub(crate) fn is_count(kind: Kind, fields: usize) -> bool
     ensures { result ≡ is_count kind fields }
 {

@@ -47,7 +47,7 @@ pub fn no_field_of_a_plan_needs_a_quote(roster: &Roster)
     symbol_names_are_formed(roster);
 }
 
-/// Each participant's name has its form.
+/// A law: each participant's name on a roster is 1 to 4 of A to Z and 0 to 9.
 pub fn part_names_are_formed(roster: &Roster)
     ensures { (part : ℕ) → part < length roster.now.parts → is_part_name (part_text roster.now part) ≡ true }
 {
@@ -56,7 +56,7 @@ pub fn part_names_are_formed(roster: &Roster)
     }
 }
 
-/// The participant's name at a place has its form.
+/// A law: the name of the participant at a place on a roster is 1 to 4 of A to Z and 0 to 9.
 fn part_name_is_formed(roster: &Roster, place: usize)
     requires { place < length roster.now.parts }
     ensures { is_part_name (part_text roster.now place) ≡ true }
@@ -66,7 +66,7 @@ fn part_name_is_formed(roster: &Roster, place: usize)
     roster.part_name(part);
 }
 
-/// Each symbol's name has its form.
+/// A law: each symbol's name on a roster is 1 to 8 of A to Z, 0 to 9 and the point.
 pub fn symbol_names_are_formed(roster: &Roster)
     ensures { (sym : ℕ) → sym < length roster.now.syms → is_symbol_name (symbol_text roster.now sym) ≡ true }
 {
@@ -75,7 +75,7 @@ pub fn symbol_names_are_formed(roster: &Roster)
     }
 }
 
-/// The symbol's name at a place has its form.
+/// A law: each symbol's name, at any place on a roster, is 1 to 8 of A to Z, 0 to 9 and the point.
 fn symbol_name_is_formed(roster: &Roster, place: usize)
     requires { place < length roster.now.syms }
     ensures { is_symbol_name (symbol_text roster.now place) ≡ true }

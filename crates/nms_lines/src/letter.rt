@@ -65,7 +65,7 @@ fn flag_of(row: &ByteRecord) -> Option<bool>
     }
 }
 
-/// Whether manual quotations may be traded with, if the flag is `M` or empty.
+/// Whether a flag lets an order trade with manual quotations: `M` does, and an empty flag does not. `None` for any other flag.
 pub(crate) fn flag_named(text: &[u8]) -> Option<bool>
     ensures { result ≡ flag_named text.now }
 {

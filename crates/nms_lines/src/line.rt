@@ -28,9 +28,9 @@ pub enum Line {
     Change(Change),
     /// `T`: take one queued change to the tape.
     TakeOne,
-    /// `F`: take until the queue is empty, then publish.
+    /// `F`: take changes from the queue to the tape until the queue is empty, then publish the tape.
     TakeAll,
-    /// `P`: publish.
+    /// `P`: make all of the tape the published version.
     Publish,
     /// `L`: report the published version to the desk.
     Tell {
@@ -53,7 +53,7 @@ pub enum Line {
         /// The price of the trade, in 1/10,000 dollar.
         price: Price,
     },
-    /// `O`: the desk looks and plans.
+    /// `O`: the desk looks at the order's symbol and plans the order.
     Sweep {
         /// The desk, below the number of desks.
         desk: u8,
@@ -67,7 +67,7 @@ pub enum Line {
 pub enum Kind {
     /// `Q`: both sides and the state of a participant's quotations in a symbol.
     Quote,
-    /// `S`: only the state.
+    /// `S`: only the state of a participant's quotations in a symbol.
     State,
     /// `X`: the participant no longer quotes any symbol.
     Withdraw,
@@ -75,9 +75,9 @@ pub enum Kind {
     Lot,
     /// `T`: takes one queued change to the tape.
     TakeOne,
-    /// `F`: takes until the queue is empty, then publishes.
+    /// `F`: takes changes from the queue to the tape until the queue is empty, then publishes the tape.
     TakeAll,
-    /// `P`: publishes.
+    /// `P`: makes all of the tape the published version.
     Publish,
     /// `L`: reports the published version to a desk.
     Tell,

@@ -11,13 +11,13 @@ use thiserror::Error;
 pub enum LineFault {
     /// L1: the first field is not a kind that the record's source may have.
     UnknownKind,
-    /// L2: the number of fields is not the kind's.
+    /// L2: a record of its kind does not have that number of fields.
     FieldCount,
     /// L3: the participant is not on the roster.
     UnknownParticipant,
     /// L4: the symbol is not on the roster.
     UnknownSymbol,
-    /// L5: the state, the order's side or its flag is none of its letters, or the word before an average is not `AVG`.
+    /// L5: the state, the order's side or its flag has an unknown letter, or the word before an average price is not `AVG`.
     BadState,
     /// L6: a price does not have its form, or is zero when a quotation, an order or a round lot needs one.
     BadPrice,
@@ -38,7 +38,7 @@ pub enum LineFault {
 pub enum FaultPlace {
     /// The record as such: it has another number of fields than its kind.
     Record,
-    /// The field after n others.
+    /// A field, numbered by how many fields come before it.
     Field(u8),
 }
 
@@ -52,7 +52,7 @@ pub struct PlacedFault {
 }
 
 impl PlacedFault {
-    /// A fault of the field after n others.
+    /// A fault of one field, which is numbered by how many fields come before it.
     pub(crate) fn at(fault: LineFault, place: u8) -> Self
         ensures { result ≡ at fault place }
     {

@@ -16,7 +16,7 @@ use nms_quote::Roster;
 /// The line that a record gives, or its fault of the least number (the law `the_least_fault_is_read`). A record of a kind that
 /// its source may not have is `UnknownKind`, even if the rest is wrong too.
 ///
-/// It takes no memory. If both sides quote, in cents, each field is read once.
+/// It takes no memory. Each field of a record that quotes both sides in cents is read once.
 pub fn read_line(row: &ByteRecord, roster: &Roster, from: Reading) -> Result<Line, LineFault>
     ensures line { result ≡ reading roster.now from (fields_of row.now) }
     ensures of { IfOk result (IsLineOf roster.now from) }
@@ -27,7 +27,8 @@ pub fn read_line(row: &ByteRecord, roster: &Roster, from: Reading) -> Result<Lin
     }
 }
 
-/// As `read_line`, with the place of the fault: the first field that has it, or the record as such.
+/// The line that a record gives, or its fault of the least number with the place of the fault. The place is the first field
+/// that has the fault, or the record as such.
 pub fn read_line_at(row: &ByteRecord, roster: &Roster, from: Reading) -> Result<Line, PlacedFault>
     ensures line { result ≡ placed_reading roster.now from (fields_of row.now) }
     ensures of { IfOk result (IsLineOf roster.now from) }

@@ -25,8 +25,8 @@ pub(crate) fn average_in(row: &ByteRecord) -> Result<Option<Price>, PlacedFault>
     Ok(Some(price_at(row, 3)?))
 }
 
-/// The round lot that the average gives (17 CFR 242.600, "round lot"), else the one that the third field
-/// writes, or `BadLot`.
+/// The round lot that an average closing price gives (17 CFR 242.600, "round lot"). Without an average it is the number in the
+/// third field, or the fault `BadLot`.
 pub(crate) fn lot_in(row: &ByteRecord, average: Option<Price>) -> Result<Lot, PlacedFault>
     ensures { result ≡ lot_in (fields_of row.now) average }
 {

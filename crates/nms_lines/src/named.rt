@@ -12,7 +12,8 @@ use nms_quote::{PartSet, Roster};
 /// The participants that a text names: names of the roster joined by `+`, in any order; a repeated one counts once. `None` if
 /// one of them is empty or not on the roster.
 ///
-/// It takes no memory. In this text an order names the participants that have no protected quotation for it (17 CFR 242.611(b)(1)).
+/// It takes no memory. In this text an order names the participants that have no protected quotation for it (17 CFR
+/// 242.611(b)(1)).
 pub fn read_names(text: &[u8], roster: &Roster) -> Option<PartSet>
     ensures set { result ≡ named_in roster.now text.now }
     ensures there { IfSome result (AreBelow (length roster.now.parts)) }

@@ -10,14 +10,14 @@ use crate::line_fault::{LineFault, PlacedFault};
 use csv::ByteRecord;
 use nms_units::{Price, Shares, parse_digits};
 
-/// The price of a text, in 1/10,000 dollar; never zero.
+/// The price that a text gives, in 1/10,000 dollar. `None` if the text is not a price, or is zero.
 pub fn price_of(text: &[u8]) -> Option<Price>
     ensures { result ≡ above_zero (price_number text.now) }
 {
     Price::parse(text).ok()
 }
 
-/// The shares of a text, if they are at least one.
+/// The number of shares that a text gives. `None` if the text is not a number of shares, or is zero.
 pub fn some_shares_of(text: &[u8]) -> Option<Shares>
     ensures shares { result ≡ above_zero (shares_number text.now) }
     ensures some { IfSome result (λ shares. 1 ≤ shares) }

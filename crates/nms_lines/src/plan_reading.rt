@@ -23,8 +23,8 @@ use std::io::Read;
 /// version is 1 to 8 digits, and the order is of at least one share. A tenth field of the plan's record holds the participants
 /// that the order names, as an order's eighth field does.
 ///
-/// `write_plan` can write what is read on the same roster. It need not be lawful: `nms_rules` and `nms_cert` judge that. Any
-/// other text is `BadPlanText`. The error is `NoMemory` if out of memory.
+/// `write_plan` can write what is read on the same roster. The plan need not be lawful: `nms_rules` and `nms_cert` judge that.
+/// Any other text is `BadPlanText`. The error is `NoMemory` if out of memory.
 pub fn read_plan(
     alloc: Global,
     text: &[u8],
@@ -46,7 +46,8 @@ pub fn read_plan(
     read_records(&mut reader, &mut row, roster)
 }
 
-/// As `read_plan`, with a given row. It takes no memory if the row has room for the text's bytes and one more field.
+/// Reads a plan and its certificate as `read_plan` does, but through a buffer for records that the caller gives. It takes no
+/// memory if the buffer has room for the text's bytes and one more field.
 pub fn read_plan_by(
     alloc: Global,
     row: &mut ByteRecord,
@@ -114,7 +115,7 @@ fn read_head<R: Read>(
     head_in(row, roster).ok().ok_or(PlanTextFault::BadPlanText)
 }
 
-/// Reads the legs, and the record after them into the row.
+/// Reads the legs of a plan. The buffer for records then has the record after the last leg.
 fn read_legs<R: Read>(
     reader: &mut Reader<R>,
     row: &mut ByteRecord,
@@ -141,7 +142,7 @@ fn read_legs<R: Read>(
     Err(PlanTextFault::BadPlanText)
 }
 
-/// Reads the cuts and the end. The row is the first cut, if there is one.
+/// Reads the cuts of a certificate, and the end of the text. The buffer for records already has the first of these records.
 fn read_cuts<R: Read>(
     reader: &mut Reader<R>,
     row: &mut ByteRecord,
@@ -170,7 +171,7 @@ fn read_cuts<R: Read>(
     Err(PlanTextFault::BadPlanText)
 }
 
-/// Reads the next record, which must be there.
+/// Reads the next record of a plan's text. If there is none, the text is refused as `BadPlanText`.
 fn need_row<R: Read>(reader: &mut Reader<R>, row: &mut ByteRecord) -> Result<(), PlanTextFault>
     ensures read { (left : List Record) → AreLeft R.remaining reader.old left
         → result ≡ Ok tt → (more : List Record) × (left ≡ fields_of row.new ∷ more) × AreLeft R.remaining reader.new more }
@@ -180,12 +181,12 @@ fn need_row<R: Read>(reader: &mut Reader<R>, row: &mut ByteRecord) -> Result<(),
     match read_next(reader, row) {
         Ok(true) => Ok(()),
         Ok(false) => Err(PlanTextFault::BadPlanText),
-        // A text in memory is always read, so only memory can fail.
+        // The bytes of the text are in memory already, so this read fails only if there is no memory for the record.
         Err(RecordFault::Failed | RecordFault::NoMemory) => Err(PlanTextFault::NoMemory),
     }
 }
 
-/// Reads on. There must be no further record.
+/// Checks that no record follows the end of a plan's text. A text that goes on is refused as `BadPlanText`.
 fn need_end<R: Read>(reader: &mut Reader<R>, row: &mut ByteRecord) -> Result<(), PlanTextFault>
     ensures read { (left : List Record) → AreLeft R.remaining reader.old left → result ≡ Ok tt → left ≡ [] }
     ensures refused { (left : List Record) → AreLeft R.remaining reader.old left
@@ -195,7 +196,7 @@ fn need_end<R: Read>(reader: &mut Reader<R>, row: &mut ByteRecord) -> Result<(),
     match read_next(reader, row) {
         Ok(true) => Err(PlanTextFault::BadPlanText),
         Ok(false) => Ok(()),
-        // A text in memory is always read, so only memory can fail.
+        // The bytes of the text are in memory already, so this read fails only if there is no memory for the record.
         Err(RecordFault::Failed | RecordFault::NoMemory) => Err(PlanTextFault::NoMemory),
     }
 }

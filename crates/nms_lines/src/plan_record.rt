@@ -23,7 +23,7 @@ pub enum PlanRecord {
     Plan,
     /// `LEG`: a leg of the plan.
     Leg,
-    /// `CUT`: a cut of its certificate.
+    /// `CUT`: a cut of the plan's certificate.
     Cut,
     /// `END`: the end of the text.
     End,
@@ -46,8 +46,8 @@ impl Model for PlanHead {
     ghost view = { λ h. record { version = h.version; order = h.order; filled = h.filled; cost = h.cost } };
 }
 
-/// The place at which a record is wrong for the given kind: its first word, the number of its fields, or the first field that a
-/// plan can't have. None if it is read.
+/// The place at which a record is wrong for the given kind. It is the first word, the number of fields, or the first field that
+/// a plan can't have. `None` if the record can be read.
 pub fn wrong_place(sort: PlanRecord, row: &ByteRecord, roster: &Roster) -> Option<FaultPlace>
     ensures { result ≡ wrong_as sort roster.now (fields_of row.now) }
 {
@@ -62,7 +62,7 @@ pub fn wrong_place(sort: PlanRecord, row: &ByteRecord, roster: &Roster) -> Optio
     }
 }
 
-/// The fields of the record of a plan, if the row is one.
+/// The fields of the record of a plan, or the place at which the record is wrong.
 pub(crate) fn head_in(row: &ByteRecord, roster: &Roster) -> Result<PlanHead, FaultPlace>
     ensures head { result ≡ head_reading roster.now (fields_of row.now) }
     ensures there { IfOk result (λ head. head.order.sym < length roster.now.syms) }
@@ -86,7 +86,7 @@ pub(crate) fn head_in(row: &ByteRecord, roster: &Roster) -> Result<PlanHead, Fau
     })
 }
 
-/// The leg in the row, if it is one.
+/// The leg that a record gives, or the place at which the record is wrong.
 pub(crate) fn leg_in(row: &ByteRecord, roster: &Roster) -> Result<Leg, FaultPlace>
     ensures leg { result ≡ leg_reading roster.now (fields_of row.now) }
     ensures there { IfOk result (λ leg. leg.part < length roster.now.parts) }
@@ -102,7 +102,7 @@ pub(crate) fn leg_in(row: &ByteRecord, roster: &Roster) -> Result<Leg, FaultPlac
     })
 }
 
-/// The cut in the row, if it is one.
+/// The cut that a record gives, or the place at which the record is wrong.
 pub(crate) fn cut_in(row: &ByteRecord) -> Result<Cut, FaultPlace>
     ensures { result ≡ cut_reading (fields_of row.now) }
 {
@@ -112,21 +112,21 @@ pub(crate) fn cut_in(row: &ByteRecord) -> Result<Cut, FaultPlace>
     Ok(Cut { price, kind })
 }
 
-/// Whether the row is the end.
+/// Whether a record is the one that ends a plan's text.
 pub(crate) fn is_end(row: &ByteRecord) -> bool
     ensures { result ≡ is_ok (end_reading (fields_of row.now)) }
 {
     end_in(row).is_ok()
 }
 
-/// Checks that the row is the end.
+/// Checks that a record is the one that ends a plan's text.
 fn end_in(row: &ByteRecord) -> Result<(), FaultPlace>
     ensures { result ≡ end_reading (fields_of row.now) }
 {
     begin(row, b"END", row.len() == 1)
 }
 
-/// Tests the first word of a row, and then whether it has the right number of fields.
+/// Tests the first word of a record, and then whether the record has the right number of fields.
 fn begin(row: &ByteRecord, word: &[u8], is_counted: bool) -> Result<(), FaultPlace>
     ensures { result ≡ begun word.now is_counted (fields_of row.now) }
 {
@@ -156,7 +156,7 @@ fn kind_in(word: &[u8], value: &[u8]) -> Result<CutKind, FaultPlace>
     Ok(CutKind::Marginal(money))
 }
 
-/// The kind of a cut that has an empty field after its word.
+/// The given kind of cut, which has no value, if the field for the value is empty.
 fn without_value(value: &[u8], kind: CutKind) -> Option<CutKind>
     ensures { result ≡ without_value value.now kind }
 {
@@ -166,14 +166,14 @@ fn without_value(value: &[u8], kind: CutKind) -> Option<CutKind>
     }
 }
 
-/// A number of shares, 0 or more.
+/// The number of shares that a text gives, 0 or more. `None` if the text is not a number of shares.
 fn shares_in(text: &[u8]) -> Option<Shares>
     ensures { result ≡ shares_number text.now }
 {
     Shares::parse(text).ok()
 }
 
-/// An amount of money.
+/// The amount of money that a text gives. `None` if the text is not an amount of money.
 fn money_in(text: &[u8]) -> Option<Money>
     ensures { result ≡ money_number text.now }
 {

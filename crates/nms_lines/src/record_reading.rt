@@ -26,8 +26,8 @@ pub fn open_records<R: Read>(alloc: Global, source: R) -> Reader<R>
         .from_reader(alloc, source)
 }
 
-/// A row with room for a record of usual length: 64 fields, and 1,024 bytes. A row without room grows by doubling, and then the
-/// reader takes most records in two parts. If out of memory, the row has no room at first, and takes it as it grows.
+/// A buffer for one record of usual length: 64 fields, and 1,024 bytes. A buffer without room grows by doubling, and then the
+/// reader takes most records in two parts. If out of memory, the buffer starts without room and takes memory as it grows.
 pub fn open_row(alloc: Global) -> ByteRecord
     ensures { fields_of result ≡ [] }
 {
@@ -37,8 +37,8 @@ pub fn open_row(alloc: Global) -> ByteRecord
     }
 }
 
-/// As `open_records`, with an empty header row set before the first read. So the reader looks for no header and keeps no copy
-/// of the first record. Then no read takes memory if the row has room for the record.
+/// A reader of the records of a text, with an empty header row set before the first read. So the reader looks for no header and
+/// keeps no copy of the first record. Then no read takes memory if the buffer has room for the record.
 pub(crate) fn open_bare_records<R: Read + Drop>(
     alloc: Global,
     source: R,

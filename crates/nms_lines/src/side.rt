@@ -14,7 +14,8 @@ use csv::ByteRecord;
 use nms_quote::{Side, SideQuote};
 use nms_units::{Price, Shares, UnitFault};
 
-/// The bid and the offer of a record, or the fault of least number on either. Two quotes have no fault.
+/// The bid and the offer of a record, or the fault of the least number on either side. If both sides have quotations, there is
+/// no fault.
 pub(crate) fn sides_in(
     row: &ByteRecord,
 ) -> Result<(Option<SideQuote>, Option<SideQuote>), PlacedFault>
@@ -29,7 +30,7 @@ pub(crate) fn sides_in(
     }
 }
 
-/// The bid and the offer of a record, if a side may have no quote.
+/// The bid and the offer of a record, or the fault of the least number on either side. Either side may have no quotation.
 #[cold]
 #[inline(never)]
 fn other_sides_in(row: &ByteRecord) -> Result<(Option<SideQuote>, Option<SideQuote>), PlacedFault>
@@ -56,7 +57,8 @@ fn other_sides_in(row: &ByteRecord) -> Result<(Option<SideQuote>, Option<SideQuo
     Ok((quote_in(bid, bid_shares), quote_in(offer, offer_shares)))
 }
 
-/// The bid's field if it is wrong, which is after n others, or else the offer's, two further.
+/// The number of the first wrong field, of the bid or of the offer. The bid's field has the given number, and the offer's is
+/// two further.
 fn first_at(before: u8, is_bid: bool, is_offer: bool) -> Option<u8>
     requires { before < 8 }
     ensures { result ≡ option_or (wrong_at before is_bid) (wrong_at (before + 2) is_offer) }
@@ -70,7 +72,8 @@ fn first_at(before: u8, is_bid: bool, is_offer: bool) -> Option<u8>
     None
 }
 
-/// The field that is empty next to one that is not, for a side whose price is after n fields.
+/// The number of the empty field of a side that has only a price or only shares. The price's field has the given number, and
+/// the shares' field the next one.
 fn half_at(before: u8, price_text: &[u8], shares_text: &[u8]) -> Option<u8>
     requires { before < 8 }
     ensures { result ≡ half_at before price_text.now shares_text.now }
@@ -94,14 +97,14 @@ fn quote_in(price_text: &[u8], shares_text: &[u8]) -> Option<SideQuote>
     SideQuote::new(price, shares)
 }
 
-/// Whether a price is there but does not have its form, or is zero next to shares that do not read as 0.
+/// Whether a price field is not empty and is wrong. Its text is not a price, or it is zero although the shares are not zero.
 fn is_bad_price(price_text: &[u8], shares_text: &[u8]) -> bool
     ensures { result ≡ is_bad_price price_text.now shares_text.now }
 {
     !price_text.is_empty() && is_unfit(price_text, shares_text)
 }
 
-/// Whether shares are there but do not have their form.
+/// Whether a shares field is not empty, and its text is not a number of shares.
 fn is_bad_shares(text: &[u8]) -> bool
     ensures { result ≡ is_bad_shares text.now }
 {
@@ -115,7 +118,7 @@ fn is_half(price_text: &[u8], shares_text: &[u8]) -> bool
     (no_price && !no_shares) || (!no_price && no_shares)
 }
 
-/// Whether there is no price, or zero next to shares that do not read as 0.
+/// Whether a price field is wrong. Its text is not a price, or it is zero although the shares are not zero.
 fn is_unfit(price_text: &[u8], shares_text: &[u8]) -> bool
     ensures { result ≡ is_unfit (price_number price_text.now) (shares_number shares_text.now) }
 {
@@ -126,7 +129,7 @@ fn is_unfit(price_text: &[u8], shares_text: &[u8]) -> bool
     }
 }
 
-/// Whether shares read as 0.
+/// Whether a text gives zero shares.
 fn is_zero(text: &[u8]) -> bool
     ensures { result ≡ is_zero (shares_number text.now) }
 {

@@ -13,7 +13,7 @@ use std::alloc::{AllocError, Global};
 use std::collections::VecDeque;
 use std::marker::Model;
 
-/// Where the legs or the cuts of an answer are among those of all answers.
+/// The places that the legs or the cuts of one answer have in the list of all answers' legs or cuts.
 #[derive(Clone, Copy)]
 pub struct Span {
     pub(crate) start: usize,
@@ -33,14 +33,16 @@ pub struct Head {
     pub(crate) cuts: Span,
 }
 
-/// Answers in order. Each has room for the legs and cuts that it has, and not for the most that it could have.
+/// A list of answers in order. It takes memory only for the legs and cuts that each answer has, and not for the most that it
+/// could have.
 pub struct Answers {
     heads: VecDeque<Head>,
     legs: Vec<Leg>,
     cuts: Vec<Cut>,
 }
 
-/// It has its own `Drop`, so that a function that holds one has one call at each exit, and not one for each part (docs/GATE.md).
+/// A list of answers has its own `Drop`. So a function that holds such a list has one call at each exit, and not one for each
+/// part (docs/GATE.md).
 impl Drop for Answers {
     fn drop(self) {
         let Answers {
@@ -64,7 +66,7 @@ impl Model for Answers {
 }
 
 impl Answers {
-    /// No answers. It takes no memory.
+    /// An empty list of answers. It takes no memory.
     pub(crate) fn none(alloc: Global) -> Self
         ensures { result.items ≡ [] }
     {
@@ -75,7 +77,7 @@ impl Answers {
         }
     }
 
-    /// Puts the answer to a desk's order with its number, which was planned last, after the others.
+    /// Adds an answer at the end of the list: the plan that the desk made last, with the order and its number.
     pub(crate) fn push(
         &mut self,
         order: &(usize, DeskOrder),
@@ -103,7 +105,7 @@ impl Answers {
         }
     }
 
-    /// Takes the first answer.
+    /// Removes the first answer from the list, and returns it.
     pub(crate) fn take_first(&mut self) -> Answer
         requires { 0 < length self.old.items }
         ensures { self.old.items ≡ result ∷ self.new.items }
@@ -126,7 +128,8 @@ impl Answers {
     }
 }
 
-/// Puts items behind the others, and returns where they are. Out of memory leaves the others as they were.
+/// Adds items at the end of a list, and returns the places that they have there. Out of memory leaves the earlier items as they
+/// were.
 fn put_behind<T: Copy>(all: &mut Vec<T>, items: &[T]) -> Result<Span, AllocError>
     requires few { length items.now ≤ MOST_ROWS }
     ensures span { IfOk result (IsSpanOf all.new.items) }
@@ -141,7 +144,7 @@ fn put_behind<T: Copy>(all: &mut Vec<T>, items: &[T]) -> Result<Span, AllocError
     })
 }
 
-/// The legs there.
+/// The legs at the given places of a list of legs.
 fn legs_at(all: &[Leg], span: Span) -> ArrayVec<Leg, MOST_ROWS>
     requires { IsSpanOf all.now span }
     ensures { result.items ≡ items_of all.now span }
@@ -153,7 +156,7 @@ fn legs_at(all: &[Leg], span: Span) -> ArrayVec<Leg, MOST_ROWS>
     legs
 }
 
-/// The cuts there.
+/// The cuts at the given places of a list of cuts.
 fn cuts_at(all: &[Cut], span: Span) -> Certificate
     requires { IsSpanOf all.now span }
     ensures { result.items ≡ items_of all.now span }

@@ -19,9 +19,9 @@ use std::sync::Wait;
 /// A desk's answers.
 #[derive(Drop)]
 pub struct DeskRow {
-    /// The answers that it made while the feeds were running.
+    /// The answers that the desk made while the feeds were running.
     pub(crate) answers: Answers,
-    /// The answers that it made on the complete tape.
+    /// The answers that the desk made on the complete tape.
     pub(crate) closing: Answers,
 }
 

@@ -102,7 +102,7 @@ pub(crate) fn answer_orders<R: Wait, G: Gate>(
     Ok(answers)
 }
 
-/// Looks, and plans the order on what is shown.
+/// Lets the desk look at what is published, and plans an order on what the look shows.
 fn plan_one<R: Wait, G: Gate>(
     means: &Means<'_, R, G>,
     at: GatePoint,

@@ -9,7 +9,7 @@ pub struct Ended {
 }
 
 impl Ended {
-    /// No feed's worker has ended.
+    /// The flags of a run in which no feed's worker has ended.
     pub(crate) fn none() -> Self {
         Ended {
             flags: [

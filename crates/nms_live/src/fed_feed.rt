@@ -83,7 +83,8 @@ fn send_all<R: Wait, G: Gate>(
     send_rows(means, setup, feed, &mut reader, &mut row, sender)
 }
 
-/// Sends the changes that a reader's records give, up to the first record that is refused. Each is read into the row.
+/// Sends the changes that a reader's records give, up to the first record that is refused. Each record is read into the given
+/// row.
 fn send_rows<R: Wait, G: Gate>(
     means: &Means<'_, R, G>,
     setup: &Setup,
@@ -112,7 +113,7 @@ fn send_rows<R: Wait, G: Gate>(
     Err(LiveFault::NoMemory)
 }
 
-/// Sends the change that a record gives, with n sent before it.
+/// Sends the change that a record gives. The feed sent `index` changes before it.
 fn send_record<R: Wait, G: Gate>(
     means: &Means<'_, R, G>,
     setup: &Setup,

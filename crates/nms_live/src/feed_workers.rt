@@ -57,8 +57,8 @@ pub(crate) fn run_feeds<'s, E, R: Threads + Wait + Sync, G: Gate>(
     end_feeds(means, keeper, fed, taker)
 }
 
-/// Starts the feeds' workers in order of place, and reports whether it started all. If one can't be started, no further ones
-/// are, and their feeds have ended.
+/// Starts the feeds' workers in order of place, and reports whether all were started. If one can't be started, no later one is
+/// started. Then the feeds without a worker count as ended.
 fn start_feeds<'s, E, R: Wait + Sync, G: Gate>(
     scope: &'s Scope<'s, E>,
     means: &'s Means<'s, R, G>,
@@ -139,7 +139,7 @@ fn join_feeds<R: Threads>(
     back
 }
 
-/// Takes the rest of what all feeds sent, unless one stopped early. Returns the fault of the first that did.
+/// Takes the rest of what all feeds sent, unless a feed's worker stopped early. Returns the fault of the first such feed.
 fn end_feeds<R: Wait, G: Gate>(
     means: &Means<'_, R, G>,
     keeper: &mut Keeper,

@@ -4,7 +4,8 @@ ghost use Rattle.nms_live.specs.Faults.{first_fault};
 
 use crate::live_fault::LiveFault;
 
-/// Returns the fault of the lower rank, the first one if the ranks are equal; else the only fault.
+/// Returns the fault that has the lower rank, or the first one if the ranks are equal. If only one is a fault, that one is
+/// returned.
 pub(crate) fn first_of(one: Option<LiveFault>, other: Option<LiveFault>) -> Option<LiveFault>
     ensures first { result ≡ first_fault one other }
     ensures either { (result ≡ one) ⊎ (result ≡ other) }

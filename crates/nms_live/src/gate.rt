@@ -12,29 +12,29 @@ pub enum GatePoint {
     Send {
         /// The feed.
         feed: Feed,
-        /// How many changes it sent before.
+        /// How many changes the feed's worker sent before.
         k: u64,
     },
     /// A desk's worker looks.
     Look {
         /// The desk.
         desk: u8,
-        /// How often it looked before.
+        /// How often the desk's worker looked before.
         k: u64,
     },
     /// The taker publishes.
     Publish {
-        /// How often it published before.
+        /// How often the taker published before.
         k: u64,
     },
 }
 
 /// Decides when each send, look and publishing of a live run may be made. All threads of the run use it at the same time.
 pub trait Gate: Sync {
-    /// Whether the act may be made now. This is asked up to 1,000,000 times, until it agrees.
+    /// Whether the send, look or publishing may be made now. A thread asks this up to 1,000,000 times, until the gate agrees.
     fn may(&self, at: GatePoint) -> bool;
 
-    /// Called after the act was made.
+    /// Called after the send, look or publishing was made.
     fn done(&self, at: GatePoint);
 }
 

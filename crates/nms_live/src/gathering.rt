@@ -18,8 +18,8 @@ pub struct Gathered {
     pub(crate) closing: Vec<Answer>,
 }
 
-/// Takes, for each order, the next answer and closing answer of its desk. The answers were made over this setup, this
-/// tape and these published lengths.
+/// Takes, for each order, the next answer and closing answer of its desk. The answers were made over the given setup, tape and
+/// published lengths.
 pub(crate) fn gather(
     alloc: Global,
     setup: &Setup,

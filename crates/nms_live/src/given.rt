@@ -9,7 +9,7 @@ use nms_fees::Setup;
 use nms_quote::{DeskOrder, Feed};
 use std::alloc::Global;
 
-/// What a live run is given.
+/// What a live run is given: the setup, the texts of its feeds, and the orders of its desks.
 #[derive(Drop)]
 pub struct Given<'g> {
     pub(crate) setup: &'g Setup,
@@ -24,7 +24,7 @@ pub struct Given<'g> {
     ghost parted: { AreOwn orders.items by_desk.items },
 }
 
-/// The means of a live run.
+/// The means of a live run: its threads, its memory, and its gate.
 #[derive(Drop)]
 pub struct Means<'m, R, G> {
     pub(crate) rt: &'m R,
@@ -45,7 +45,7 @@ impl<'g> Given<'g> {
         records
     }
 
-    /// Only the orders. The texts and all else are freed.
+    /// Returns the orders of the run. The texts of the feeds and everything else are freed.
     pub(crate) fn into_orders(self) -> Vec<DeskOrder>
         ensures { result ≡ self.entry.orders }
     {

@@ -71,7 +71,7 @@ impl Keeper {
         self.waiting > 0
     }
 
-    /// Takes a change in, and publishes after each 64.
+    /// Takes a change in, and publishes the tape after each 64 changes.
     pub(crate) fn take_in<R: Wait, G: Gate>(&mut self, means: &Means<'_, R, G>, change: &Change)
         ensures same { IsSameKeeping self.old self.new }
         ensures taken { self.new.stop ≡ None → (self.old.stop ≡ None) × (tape_of self.new.taped ≡ tape_of self.old.taped ++ change.now ∷ []) }
@@ -91,7 +91,7 @@ impl Keeper {
         }
     }
 
-    /// Appends a change, and reports whether it did.
+    /// Appends a change to the tape, and reports whether it was appended.
     fn append(&mut self, change: &Change) -> bool
         ensures same { IsSameKeeping self.old self.new }
         ensures stop { self.new.stop ≡ self.old.stop }

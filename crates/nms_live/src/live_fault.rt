@@ -16,7 +16,7 @@ pub enum LiveFault {
         feed: Feed,
         /// The record's number in its feed, counted from 1.
         number: u64,
-        /// Its fault.
+        /// Why the record was refused.
         fault: LineFault,
     },
     /// E6: no tape or lane was opened, or a thread could not be started.
@@ -46,7 +46,7 @@ impl LiveFault {
         }
     }
 
-    /// The exit status of a program that ends with it: 6 for a line of a feed, 7 for the run, 5 for memory.
+    /// The exit status of a program that ends with this fault: 6 for a line of a feed, 7 for the run, 5 for memory.
     pub fn status(self) -> u8
         ensures { result ≡ status_of self }
     {

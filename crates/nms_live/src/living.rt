@@ -58,7 +58,7 @@ pub fn run_live<R: Threads + Wait + Sync, G: Gate>(
         Ok(closed) => closed,
         Err(fault) => return Err(fault),
     };
-    // The texts go first, because all answers in the order of the orders take more memory than anything before.
+    // The feeds' texts are freed before the answers are put in the order of the orders, since that takes the most memory of a run.
     let orders = given.into_orders();
     let Closed {
         tape,
@@ -85,7 +85,7 @@ pub struct Closed {
     pub(crate) rows: Vec<DeskRow>,
 }
 
-/// The live run over the texts and orders that it is given.
+/// Makes a live run over the given texts and orders. All its threads have ended when it returns.
 fn run_over<R: Threads + Wait + Sync, G: Gate>(
     means: &Means<'_, R, G>,
     given: &Given<'_>,
@@ -110,7 +110,7 @@ fn run_over<R: Threads + Wait + Sync, G: Gate>(
     }
 }
 
-/// The closing answers, the tape, and what was published.
+/// Lets the desks make their closing answers, and returns all answers with the tape and the published lengths.
 fn close_all<R: Wait, G>(
     means: &Means<'_, R, G>,
     given: &Given<'_>,

@@ -12,7 +12,7 @@ pub struct OwnOrders {
     pub(crate) orders: Vec<(usize, DeskOrder)>,
 }
 
-/// Parts the orders by desk, each desk's in order of number. `None` if out of memory.
+/// Parts the orders by desk. The orders of each desk stay in order of their numbers. `None` if out of memory.
 pub(crate) fn part_by_desk(alloc: Global, desks: u8, orders: &[DeskOrder]) -> Option<Vec<OwnOrders>>
     requires desks { All (λ order. order.desk < desks) orders.now }
     ensures all { IfSome result (λ rows. length rows.items ≡ desks) }
@@ -27,7 +27,7 @@ pub(crate) fn part_by_desk(alloc: Global, desks: u8, orders: &[DeskOrder]) -> Op
     Some(rows)
 }
 
-/// A row for each desk, with no orders in it.
+/// An empty list of orders for each desk. `None` if out of memory.
 fn no_orders(alloc: Global, desks: u8) -> Option<Vec<OwnOrders>>
     ensures all { IfSome result (λ rows. length rows.items ≡ desks) }
     ensures own { IfSome result (λ rows. AreOwn [] rows.items) }
@@ -45,7 +45,7 @@ fn no_orders(alloc: Global, desks: u8) -> Option<Vec<OwnOrders>>
     Some(rows)
 }
 
-/// Puts an order with its number after those of its desk, and reports whether there was memory for it.
+/// Adds an order with its number after the earlier orders of its desk, and reports whether there was memory for it.
 fn put_behind(rows: &mut Vec<OwnOrders>, number: usize, wanted: &DeskOrder) -> bool
     requires place { wanted.now.desk < length rows.old.items }
     ensures len { length rows.new.items ≡ length rows.old.items }

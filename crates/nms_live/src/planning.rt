@@ -16,7 +16,7 @@ pub struct Planning<'s> {
 }
 
 impl<'s> Planning<'s> {
-    /// A desk that has planned nothing. It takes no memory.
+    /// The planning of a desk that has planned nothing yet. It takes no memory.
     pub(crate) fn new(setup: &'s Setup) -> Self
         ensures { result.setup.now ≡ setup.now }
     {
@@ -36,7 +36,7 @@ impl<'s> Onlooker for Planning<'s> {
 
     ghost Sees = { λ before board after sight. HasPlanned before board after };
 
-    /// Plans the order. A symbol that is not on the roster has no quotations.
+    /// Plans the order on the board that is shown. A symbol that is not on the roster has no quotations.
     fn see(&mut self, board: &Boards) {
         if board.has_sym(self.order.sym) {
             self.planner.plan_on(board, &self.order, self.setup.fees());

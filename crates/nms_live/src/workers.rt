@@ -19,7 +19,7 @@ use std::sync::Wait;
 use std::thread;
 use std::thread::{Scope, Threads};
 
-/// Runs all workers in their own scope.
+/// Runs the workers of all feeds and desks in a scope of threads, and waits for them.
 pub(crate) fn run_in_threads<R: Threads + Wait + Sync, G: Gate>(
     means: &Means<'_, R, G>,
     given: &Given<'_>,

@@ -34,7 +34,7 @@ impl PairPlace {
         }
     }
 
-    /// The number of the place.
+    /// The number of the place, 0 to 1,024.
     pub fn get(self) -> u16
         ensures place { result ≡ self }
         ensures within { result ≤ 1024 }
@@ -42,7 +42,7 @@ impl PairPlace {
         self.place
     }
 
-    /// The place of a bid and an offer.
+    /// The place of the pair of a bid and an offer of two participants.
     pub(crate) fn of(bid: Part, offer: Part) -> Self
         ensures place { result ≡ 32 * bid + offer }
         ensures before_end { result < 1024 }

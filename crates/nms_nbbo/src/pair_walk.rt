@@ -29,7 +29,7 @@ fn place_behind(pair: &Pair) -> PairPlace
     PairPlace::of(pair.bid.part, pair.offer.part).next()
 }
 
-/// The pair at the least place from `from` on.
+/// The first pair that locks or crosses, at the given place of the walk or after it.
 fn first_pair(bids: &[Row], offers: &[Row], from: PairPlace) -> Option<Pair>
     requires bids { AreByPart bids.now }
     requires offers { AreByPart offers.now }
@@ -43,7 +43,8 @@ fn first_pair(bids: &[Row], offers: &[Row], from: PairPlace) -> Option<Pair>
     None
 }
 
-/// The pair of a bid at the least place from `from` on. A bid whose pairs are all before it is skipped.
+/// The first pair of a bid that locks or crosses, at the given place of the walk or after it. A bid whose pairs all come before
+/// that place is skipped.
 fn first_pair_of(bid: &Row, offers: &[Row], from: PairPlace) -> Option<Pair>
     requires { AreByPart offers.now }
     ensures { IsFirstPairOf (bid.now ∷ []) offers.now from result }
@@ -60,7 +61,7 @@ fn first_pair_of(bid: &Row, offers: &[Row], from: PairPlace) -> Option<Pair>
     None
 }
 
-/// The pair of a bid and an offer, if it is at or after `from`.
+/// The pair of a bid and an offer that lock or cross, if it is at the given place of the walk or after it.
 fn pair_from(bid: &Row, offer: &Row, from: PairPlace) -> Option<Pair>
     ensures { IsFirstPairOf (bid.now ∷ []) (offer.now ∷ []) from result }
 {

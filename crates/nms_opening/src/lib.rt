@@ -10,11 +10,11 @@ mod rolling;
 /// The most opening changes of a symbol: its round lot, and two sides of each of 32 participants.
 pub const MOST_OPENING: usize = 65;
 
-/// A `RollingBoard` begins to go over when its board has this number of changes, because then there is room for one change a
-/// symbol.
+/// The number of changes of a board at which a `RollingBoard` begins to fill the next one. The room that is left has one change
+/// for each symbol.
 pub const ROLLS_AT: u64 = 9_990_000;
 
-/// The most changes that a `RollingBoard` counts in addition to those of its board.
+/// The most changes that a `RollingBoard` counts from earlier boards, in addition to those of its present board.
 pub const MOST_BEFORE: u64 = 9_223_372_036_854_775_808;
 
 pub use laws::{alike_boards_show_the_same, alike_boards_stay_alike, worked_examples};

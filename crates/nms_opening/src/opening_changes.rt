@@ -5,7 +5,8 @@ use crate::MOST_OPENING;
 use nms_quote::{Change, Part};
 use std::marker::Model;
 
-/// The opening changes of one symbol, in the order in which they apply: at most `MOST_OPENING`. They are inside the value.
+/// The opening changes of one symbol, in the order in which they apply: at most `MOST_OPENING`. The list needs no memory of its
+/// own.
 #[derive(Drop)]
 pub struct OpeningChanges {
     places: [Change; MOST_OPENING],
@@ -25,7 +26,7 @@ impl Model for OpeningChanges {
 }
 
 impl OpeningChanges {
-    /// An empty list. A change has no default, so the unused places hold a withdrawal.
+    /// An empty list. The unused places hold a withdrawal, because there is no change that means nothing.
     pub(crate) fn none() -> Self
         ensures { result ≡ [] }
     {
@@ -38,7 +39,7 @@ impl OpeningChanges {
         }
     }
 
-    /// Appends a change.
+    /// Appends a change to the list.
     pub(crate) fn push(&mut self, change: Change)
         requires { length self.old < MOST_OPENING }
         ensures { self.new ≡ self.old ++ change ∷ [] }

@@ -16,12 +16,12 @@ use std::marker::Model;
 use std::mem;
 
 /// A board that takes changes without end. Each change takes about as long as on a plain board. Near the limit of its changes,
-/// each change also brings one symbol to the next board. That takes the board's place when it has all symbols.
+/// each change also brings one symbol to the next board. When the next board has all symbols, it replaces the old one.
 #[derive(Drop)]
 pub struct RollingBoard {
     board: Boards,
     next: Boards,
-    /// How many symbols the next board has, if it is being filled.
+    /// How many symbols the next board has. `None` while it is not being filled.
     carried: Option<u16>,
     before: u64,
 }
@@ -38,7 +38,7 @@ impl Model for RollingBoard {
 }
 
 impl RollingBoard {
-    /// The board of a roster with nothing on it. No later call takes memory.
+    /// An empty board of a roster. It takes all memory now, so no later call takes any.
     pub fn new(alloc: Global, roster: &Roster) -> Result<Self, BoardFault>
         ensures opening { IfOk result (λ rolling. rolling.board ≡ opening (sizes_of roster.now)) }
         ensures before { IfOk result (λ rolling. rolling.before ≡ 0) }
@@ -53,14 +53,15 @@ impl RollingBoard {
         })
     }
 
-    /// The board, for all looks. Its receipts count from the last time that it went over, and are in the order of the changes.
+    /// The present board, for all looks. Its receipts count from the last time that a new board replaced the old one. They are in
+    /// the order of the changes.
     pub fn board(&self) -> &Boards
         ensures { result.now ≡ self.now.board }
     {
         &self.board
     }
 
-    /// How many changes were taken.
+    /// How many changes were taken since the start, by all boards.
     pub fn version(&self) -> u64
         requires { self.now.before ≤ MOST_BEFORE }
         ensures { result ≡ version self.now }
@@ -68,7 +69,8 @@ impl RollingBoard {
         self.before + self.board.applied()
     }
 
-    /// Takes a change. It takes as long as on a plain board. While the board goes over, one symbol's opening changes are added.
+    /// Takes a change, in the time that a plain board needs. While the next board is being filled, one symbol's opening changes
+    /// are added to it too.
     #[inline(always)]
     pub fn apply(&mut self, change: Change)
         requires held { holds self.old.board.sizes change ≡ true }
@@ -84,7 +86,7 @@ impl RollingBoard {
                 }
             }
             Some(carried) => {
-                // A copy is lent, so that the compiler keeps a usual change in registers.
+                // The next call receives a copy, so that the compiler keeps a usual change in registers.
                 let lent = change;
                 self.carried = carry_on(
                     &mut self.board,
@@ -98,9 +100,10 @@ impl RollingBoard {
     }
 }
 
-/// Begins to go over to the next board, which is empty yet. It returns how many symbols that board has.
+/// Begins to fill the next board, which is empty at first. It returns how many symbols that board has. `None` if the next board
+/// has replaced the old one already.
 ///
-/// Like `carry_on` it is not inlined, so that a usual change, which does neither, pays nothing for them.
+/// It is not inlined, so that a usual change, which does not need it, does not become slower.
 #[inline(never)]
 fn begin(board: &mut Boards, next: &mut Boards, before: &mut u64) -> Option<u16>
     requires roster { board.old.sizes ≡ next.old.sizes }
@@ -116,8 +119,8 @@ fn begin(board: &mut Boards, next: &mut Boards, before: &mut u64) -> Option<u16>
     go_over(board, next, 0, before)
 }
 
-/// Takes a change while the board goes over, and brings one more symbol to the next board. It returns how many symbols that
-/// board has then.
+/// Takes a change while the next board is being filled, and brings one more symbol to it. It returns how many symbols that board
+/// has then. `None` if the next board has replaced the old one.
 #[inline(never)]
 fn carry_on(
     board: &mut Boards,
@@ -160,7 +163,8 @@ fn apply_both(board: &mut Boards, next: &mut Boards, change: Change, carried: u1
     }
 }
 
-/// Whether a change also goes to the next board, because it is of a symbol that is there, or of all symbols.
+/// Whether a change also applies to the next board. It does if the next board has the symbol already, or the change is of all
+/// symbols.
 fn is_followed(change: &Change, carried: u16) -> bool
     ensures { result ≡ is_followed change.now carried }
 {
@@ -174,7 +178,7 @@ fn is_followed(change: &Change, carried: u16) -> bool
 
 /// Brings the opening changes of one more symbol to the next board.
 ///
-/// It is not inlined, because the room of its list would be in the frame of each change.
+/// It is not inlined, because each change would then need the room of its list on the stack.
 #[inline(never)]
 fn bring(board: &Boards, next: &mut Boards, carried: u16)
     requires carrying { IsCarrying board.now next.old carried }
@@ -188,7 +192,7 @@ fn bring(board: &Boards, next: &mut Boards, carried: u16)
     next.apply_all(changes.as_slice());
 }
 
-/// Goes over to the next board if it has all symbols. If not, returns how many it has.
+/// Replaces the board by the next one if that has all symbols. If not, returns how many it has.
 fn go_over(board: &mut Boards, next: &mut Boards, carried: u16, before: &mut u64) -> Option<u16>
     requires carrying { IsCarrying board.old next.old carried }
     requires room { HasRoom board.old next.old carried }

@@ -5,7 +5,7 @@ use crate::plan::Plan;
 /// The plan that a desk made for an order, and why no lawful plan is better.
 #[derive(Drop)]
 pub struct Answer {
-    /// The desk.
+    /// The desk that planned the order.
     pub desk: u8,
     /// The order's place among all orders, counted from 0.
     pub number: usize,

@@ -19,7 +19,7 @@ pub enum CutKind {
 pub struct Cut {
     /// The price, in 1/10,000 dollar.
     pub price: Price,
-    /// The reason that it gives.
+    /// Why no better plan trades at this price and at no worse one.
     pub kind: CutKind,
 }
 

@@ -32,7 +32,7 @@ pub enum Change {
         /// The new state of both sides.
         state: QState,
     },
-    /// No quotation on any symbol.
+    /// A participant withdraws its quotations in all symbols.
     Withdraw {
         /// The participant that sends it.
         part: Part,

@@ -4,7 +4,7 @@ use crate::order::Order;
 /// An order and the desk that plans it.
 #[derive(Clone, Copy)]
 pub struct DeskOrder {
-    /// The desk, below the setup's `desks()`.
+    /// The desk, which is below the setup's number of desks.
     pub desk: u8,
     /// The order.
     pub order: Order,

@@ -1,7 +1,7 @@
 //! Hints for where to look first for a name.
 use std::alloc::{AllocError, Global};
 
-/// How many hints there are.
+/// The number of hints in a table of names.
 const HINTS: usize = 8192;
 
 /// A place for each name that is tried before any other. A hint may be wrong, because two names may share one, and an unknown
@@ -12,14 +12,14 @@ pub(crate) struct Hints {
 }
 
 impl Hints {
-    /// Hints that all name the first place.
+    /// Hints that all say to try the first name of the table.
     pub(crate) fn new(alloc: Global) -> Result<Self, AllocError> {
         let mut places = Vec::new(alloc);
         places.resize(HINTS, 0)?;
         Ok(Hints { places })
     }
 
-    /// The place to try first.
+    /// The place in the table at which to look first for a name. The name is given as a number.
     pub(crate) fn place_for(&self, word: u64) -> usize {
         match self.places.get(slot_of(word)) {
             Some(place) => usize::from(*place),
@@ -27,7 +27,7 @@ impl Hints {
         }
     }
 
-    /// Names a place as the first to try.
+    /// Sets the place in the table at which to look first for a name. The name is given as a number.
     pub(crate) fn set(&mut self, word: u64, place: usize) {
         if let (Some(slot), Ok(place)) = (
             self.places.get_mut(slot_of(word)),

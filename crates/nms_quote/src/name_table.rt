@@ -17,7 +17,7 @@ use std::marker::Model;
 pub(crate) struct NameTable<V: Copy> {
     entries: IndexMap<String, V>,
     words: Vec<u64>,
-    /// A copy of the values, because a record looks up two of them.
+    /// A copy of the entries' values, because a record looks up two of them.
     values: Vec<V>,
     hints: Hints,
 }
@@ -73,7 +73,7 @@ impl<V: Copy> NameTable<V> {
         }
     }
 
-    /// As `find`, without a hint.
+    /// The place of the entry with that name, found without a hint.
     #[cold]
     #[inline(never)]
     fn find_by_hash(&self, name: &[u8]) -> Option<usize>
@@ -106,8 +106,8 @@ impl<V: Copy> NameTable<V> {
         self.values[place]
     }
 
-    /// Why an entry may not be added, the first reason that holds: its name's form, its name is there already, or `most`
-    /// entries are there.
+    /// Why an entry may not be added, the first reason that holds. Its name does not have its form, its name is there already,
+    /// or the table has the most entries that the caller allows.
     pub(crate) fn refusal(&self, name: &[u8], is_name: bool, most: usize) -> Option<RosterFault>
         ensures reason { result ≡ refusal_in (λ _. is_name) most self.now name.now }
         ensures formed { IfNone result (is_name ≡ true) }

@@ -70,7 +70,7 @@ impl PartSet {
         self.mask == 0
     }
 
-    /// Two sets with the same members are equal.
+    /// A law: two sets with the same members are equal.
     pub fn sets_are_their_members()
         ensures { AreSetsByMembers }
     {}

@@ -33,7 +33,7 @@ impl Default for Leg {
 pub struct Plan {
     /// The number of the version on which it was made.
     pub version: u64,
-    /// The order.
+    /// The order for which the plan was made.
     pub order: Order,
     /// The legs, at most one for each participant.
     pub legs: ArrayVec<Leg, 32>,

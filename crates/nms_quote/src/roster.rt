@@ -21,7 +21,8 @@ pub struct Roster {
     syms: NameTable<Lot>,
 }
 
-/// It has its own `Drop`, so that a function that holds one has one call at each exit, and not one for each part (docs/GATE.md).
+/// This type has its own `Drop`. So a function that holds such a value has one call at each exit, and not one for each part
+/// (docs/GATE.md).
 impl Drop for Roster {
     fn drop(self) {
         let Roster { parts: _, syms: _ } = self;

@@ -32,7 +32,7 @@ pub enum QState {
 pub struct SideQuote {
     /// The price, in 1/10,000 dollar.
     pub price: Price,
-    /// The message's shares, 1 to 999,999,999, not yet rounded down to whole lots.
+    /// The shares that a participant's message quotes, 1 to 999,999,999, not yet rounded down to round lots.
     pub shares: Shares,
 }
 

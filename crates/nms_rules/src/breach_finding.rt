@@ -26,7 +26,7 @@ pub fn breach(view: &View, order: &Order, fees: &FeeBook, plan: &Plan) -> Option
     find_breach(view, order, fees, plan)
 }
 
-/// The first breach, and the facts about the view's rows that its type gives.
+/// The first breach of a plan that holds, by number. The contract also says what is true of the rows of any view.
 fn find_breach(view: &View, order: &Order, fees: &FeeBook, plan: &Plan) -> Option<Breach>
     ensures first { result ≡ breach_of view.now order.now fees.now plan.now }
     ensures bids { AreRows view.now.bids }
@@ -75,7 +75,7 @@ fn is_cost_wrong(fees: &FeeBook, order: &Order, plan: &Plan) -> bool
     plan.cost != cost_of(fees, order.side, plan.legs.as_slice())
 }
 
-/// The first breach of a leg by itself.
+/// The first rule that some leg breaks by itself.
 fn leg_breach(view: &View, order: &Order, legs: &[Leg]) -> Option<Breach>
     ensures { result ≡ leg_breach view.now order.now legs.now }
 {
@@ -100,7 +100,7 @@ fn leg_breach(view: &View, order: &Order, legs: &[Leg]) -> Option<Breach>
     None
 }
 
-/// The first breach of the legs together.
+/// The first rule that the legs break together.
 fn sum_breach(view: &View, order: &Order, legs: &ArrayVec<Leg, MOST_ROWS>) -> Option<Breach>
     ensures { result ≡ sum_breach view.now order.now legs.now.items }
 {

@@ -13,27 +13,27 @@ pub enum Breach {
     /// P3: a leg's participant has no quotation on the contra side, is named by the order, or has a manual one that the
     /// order does not allow.
     NoSuchQuotation,
-    /// P4: a leg's price is not that of the quotation.
+    /// P4: a leg's price is not that of its participant's quotation.
     PriceDiffers,
     /// P5: a leg has 0 shares.
     ZeroLeg,
-    /// P6: a leg has more shares than the quotation displays.
+    /// P6: a leg has more shares than its participant's quotation displays.
     OverSize,
     /// P7: two legs go to one participant.
     Repeated,
-    /// P8: a leg's price is worse than the limit.
+    /// P8: a leg's price is worse than the order's limit.
     BeyondLimit,
-    /// P9: the legs have more shares than were asked for.
+    /// P9: the legs together have more shares than the order asks for.
     OverAsked,
-    /// P10: the plan trades through a protected quotation. It is of a participant that the order does not name, at a strictly
-    /// better price than some leg's, and gets less than its full displayed size (17 CFR 242.611).
+    /// P10: the plan trades through a protected quotation. The order does not name its participant, and its price is strictly
+    /// better than some leg's. The plan gives it less than its full displayed size (17 CFR 242.611).
     TradedThrough {
         /// The quotation's participant; the least place if several are traded through.
         part: Part,
     },
-    /// P11: `filled` is not the sum of the legs' shares.
+    /// P11: the number of shares that the plan says it fills is not the sum of its legs' shares.
     FilledWrong,
-    /// P12: `cost` is not the cost of the legs with fees.
+    /// P12: the cost that the plan says it has is not the cost of its legs with fees.
     CostWrong,
 }
 

@@ -34,22 +34,23 @@ fn shown(rows: &[UsableRow]) -> u64
     sum
 }
 
-/// Whether a row must be swept before the order may trade at a price of that rank. It must if it is protected and at a better
-/// price (17 CFR 242.600, "intermarket sweep order").
+/// Whether a row must be swept before the order may trade at a price of the given rank. It must if it is protected and at a
+/// better price (17 CFR 242.600, "intermarket sweep order").
 pub fn is_swept(row: &UsableRow, cutoff: Rank) -> bool
     ensures { result ≡ is_swept cutoff row.now }
 {
     row.protected && row.rank < cutoff
 }
 
-/// Whether a row is in the pool at a price of that rank. It is if it is at that price or better, and need not be swept.
+/// Whether a row is in the pool at a cutoff, which is a price of the given rank. It is if it is at that price or better, and
+/// need not be swept.
 pub fn is_pooled(row: &UsableRow, cutoff: Rank) -> bool
     ensures { result ≡ is_pooled cutoff row.now }
 {
     row.rank <= cutoff && !is_swept(row, cutoff)
 }
 
-/// How many of a row's shares must be swept.
+/// How many of a row's shares must be swept before the order may trade at a price of the given rank.
 fn swept_part(row: &UsableRow, cutoff: Rank) -> u64
     ensures part { result ≡ swept_part cutoff row.now }
     ensures within { result ≤ MOST_SIZE }
@@ -61,7 +62,7 @@ fn swept_part(row: &UsableRow, cutoff: Rank) -> u64
     }
 }
 
-/// How many of a row's shares are in the pool.
+/// How many of a row's shares are in the pool of shares that may be traded with at a price of the given rank.
 fn pool_part(row: &UsableRow, cutoff: Rank) -> u64
     ensures part { result ≡ pool_part cutoff row.now }
     ensures within { result ≤ MOST_SIZE }
@@ -73,8 +74,8 @@ fn pool_part(row: &UsableRow, cutoff: Rank) -> u64
     }
 }
 
-/// How many shares must be swept before the order may trade at a price of that rank. They are those of the protected rows at
-/// better prices (17 CFR 242.600, "intermarket sweep order").
+/// How many shares must be swept before the order may trade at a price of the given rank. They are those of the protected rows
+/// at better prices (17 CFR 242.600, "intermarket sweep order").
 #[tactic(auto, using(crate::proofs::SumLemmas::total_none, crate::proofs::SumLemmas::total_more))]
 pub fn swept(rows: &[UsableRow], cutoff: Rank) -> u64
     requires { length rows.now ≤ MOST_ROWS }
@@ -88,7 +89,7 @@ pub fn swept(rows: &[UsableRow], cutoff: Rank) -> u64
     sum
 }
 
-/// How many shares are in the pool. They are those of the other rows at a price of that rank or better.
+/// How many shares are in the pool. They are those of the rows at a price of that rank or better that need not be swept.
 #[tactic(auto, using(crate::proofs::SumLemmas::total_none, crate::proofs::SumLemmas::total_more))]
 pub fn pool(rows: &[UsableRow], cutoff: Rank) -> u64
     requires { length rows.now ≤ MOST_ROWS }
@@ -102,7 +103,7 @@ pub fn pool(rows: &[UsableRow], cutoff: Rank) -> u64
     sum
 }
 
-/// The cost of a row's shares that must be swept.
+/// The cost, with fees, of a row's shares that must be swept before the order may trade at a price of the given rank.
 fn swept_cost_part(row: &UsableRow, cutoff: Rank) -> Money
     ensures part { result ≡ swept_cost_part cutoff row.now }
     ensures low { neg_ℤ (pos (2 ^ 100)) ≤ℤ result }
@@ -115,7 +116,8 @@ fn swept_cost_part(row: &UsableRow, cutoff: Rank) -> Money
     }
 }
 
-/// How much less than the marginal a row's share costs, if less.
+/// How much less a share of a row costs than the marginal, which is the price of one more share. It is 0 if the share costs no
+/// less.
 fn saved_by(row: &UsableRow, marginal: Money) -> Money
     requires low { neg_ℤ (pos (10 ^ 18)) ≤ℤ marginal }
     requires high { marginal ≤ℤ pos (10 ^ 18) }
@@ -127,7 +129,8 @@ fn saved_by(row: &UsableRow, marginal: Money) -> Money
     Money::new(difference.max(0))
 }
 
-/// How much less than the marginal a row's shares in the pool cost, if less.
+/// How much less the shares of a row in the pool cost than at the marginal, which is the price of one more share. It is 0 if
+/// they cost no less.
 fn savings_part(row: &UsableRow, cutoff: Rank, marginal: Money) -> Money
     requires low { neg_ℤ (pos (10 ^ 18)) ≤ℤ marginal }
     requires high { marginal ≤ℤ pos (10 ^ 18) }
@@ -151,14 +154,14 @@ fn minus(one: Money, other: Money) -> Money
     Money::new(one.get() - other.get())
 }
 
-/// The sums over rows at a cutoff.
+/// The sums over rows at a cutoff, which is the worst price at which an order may trade.
 #[derive(Clone, Copy)]
 struct Sums {
     /// How many shares must be swept.
     swept: u64,
-    /// The cost of these shares.
+    /// The cost of the shares that must be swept, with fees.
     swept_cost: Money,
-    /// How much less than the marginal the shares of the pool cost, if less.
+    /// How much less the cheap shares of the pool cost than at the marginal, which is the price of one more share.
     savings: Money,
 }
 
@@ -220,10 +223,10 @@ fn sums_at(rows: &[UsableRow], cutoff: Rank, marginal: Money) -> Sums
     sums
 }
 
-/// The least cost of filling n shares at that rank and no worse, by a marginal. The marginal is the price, in nanodollars, of
-/// one more share. This product's own rule.
+/// The least cost of filling n shares at a price of the given rank and no worse, by a marginal. The marginal is the price, in
+/// nanodollars, of one more share. This product's own rule.
 ///
-/// It is from -10^18 to 10^18.
+/// The marginal is from -10^18 to 10^18.
 pub fn least_cost(rows: &[UsableRow], most: u64, cutoff: Rank, marginal: Money) -> Money
     requires rows { length rows.now ≤ MOST_ROWS }
     requires most { most ≤ MOST_SHARES }

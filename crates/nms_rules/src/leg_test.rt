@@ -35,7 +35,8 @@ pub fn row_for(view: &View, side: OrderSide, leg: &Leg) -> Option<Row>
     view.row(contra(side), leg.part)
 }
 
-/// As `row_for`, but on what a look at a board shows for a symbol. It is read off the board, without making a view.
+/// The quotation that a leg goes to, of those that a look at a board shows for a symbol. It is read off the board, without
+/// making a view.
 pub fn row_for_on(board: &Boards, side: OrderSide, sym: Sym, leg: &Leg) -> Option<Row>
     requires { sym < length board.now.sizes.lots }
     ensures { result ≡ row_for (seen_on board.now sym) side leg.now }
@@ -84,7 +85,7 @@ fn has_no_shares(leg: &Leg) -> bool
     leg.shares.get() == 0
 }
 
-/// Whether a leg's price is worse than the limit.
+/// Whether a leg's price is worse than the order's limit.
 fn is_beyond_limit(order: &Order, leg: &Leg) -> bool
     ensures { result ≡ is_beyond_limit order.now leg.now }
 {
@@ -123,7 +124,7 @@ pub(crate) fn some_is_over_size(view: &View, order: &Order, legs: &[Leg]) -> boo
     legs.iter().any(|leg| is_over_size(view, order, leg))
 }
 
-/// Whether some leg's price is worse than the limit.
+/// Whether some leg's price is worse than the order's limit.
 #[tactic(auto, unfolding(crate::specs::Breach::some_is_beyond_limit))]
 pub(crate) fn some_is_beyond_limit(order: &Order, legs: &[Leg]) -> bool
     ensures { result ≡ some_is_beyond_limit order.now legs.now }
@@ -169,7 +170,8 @@ pub fn given_to(legs: &[Leg], part: Part) -> u64
     given
 }
 
-/// The first protected quotation that the legs trade through, by participant place. Quotations of named participants do not count.
+/// The first protected quotation that the legs trade through, by participant place. Quotations of participants that the order
+/// names do not count.
 pub(crate) fn first_traded_through(view: &View, order: &Order, legs: &[Leg]) -> Option<Row>
     requires { length legs.now ≤ MOST_ROWS }
     ensures { result ≡ first_traded_through view.now order.now legs.now }
@@ -198,7 +200,7 @@ pub fn is_traded_through(order: &Order, legs: &[Leg], row: &Row) -> bool
     has_leg_beyond(order.side, legs, row.price)
 }
 
-/// Whether some leg has a worse price than this one.
+/// Whether some leg has a worse price than the given one.
 fn has_leg_beyond(side: OrderSide, legs: &[Leg], price: Price) -> bool
     ensures { result ≡ has_leg_beyond side price legs.now }
 {

@@ -29,7 +29,7 @@ pub struct UsableRow {
     pub size: u32,
     /// Whether it is protected; else it is manual.
     pub protected: bool,
-    /// What a share costs there with the fee, in nanodollars.
+    /// What a share of the quotation costs with the participant's fee, in nanodollars.
     pub cost: Money,
 }
 
@@ -108,9 +108,9 @@ pub fn usable_rows(view: &View, order: &Order, fees: &FeeBook) -> ArrayVec<Usabl
     usable
 }
 
-/// Replaces the rows in a list by those of `usable_rows`, best price first. They are those that a look at a board shows for the
-/// order's symbol. They are read off the board in rank order, without making a view, up to the first one beyond the limit.
-/// Takes no memory.
+/// Replaces the rows in a list by the rows that an order may trade with, best price first. They are among those that a look at
+/// a board shows for the order's symbol. They are read off the board in rank order, without making a view, up to the first one
+/// beyond the limit. Takes no memory.
 pub fn put_usable_rows(
     board: &Boards,
     order: &Order,

@@ -59,7 +59,7 @@ impl<'a> Places<'a> {
         }
     }
 
-    /// Adds a path, if there is a file.
+    /// Adds a path with its file, if the file is there.
     fn add_if_there(&mut self, host: &HostRuntime, path: &'a str) -> Result<(), Refusal> {
         match fs::metadata(host, path) {
             Ok(found) => self.add(path, &found),

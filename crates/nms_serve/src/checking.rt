@@ -75,7 +75,7 @@ impl<'a, R: Wait> Check<'a, R> {
         Ok(())
     }
 
-    /// Reports a line.
+    /// Prints one line of the check's report.
     fn tell(&self, line: Text) {
         self.teller.keep(self.rt, line);
     }
@@ -175,7 +175,7 @@ impl<'a, R: Wait> Check<'a, R> {
         Ok(())
     }
 
-    /// Refuses a file whose folder takes no more files.
+    /// Refuses a file if the process may not make files in the file's folder.
     fn allow_folder(&self, path: &str) -> Result<(), Refusal> {
         let (folder, _) = parts_of(path);
         let allowed = match fs::metadata(self.host, if folder.is_empty() { "." } else { folder }) {

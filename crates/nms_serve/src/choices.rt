@@ -10,7 +10,7 @@ const HOUR: u64 = 3_600;
 
 const MINUTE: u64 = 60;
 
-/// When the run waits for the disk.
+/// When the run waits for the disk to have what was written to the tape.
 #[derive(Clone, Copy, Debug, PartialEq, Eq)]
 pub(crate) enum SyncAt {
     /// The run waits before each publishing.
@@ -21,7 +21,7 @@ pub(crate) enum SyncAt {
     None,
 }
 
-/// The choices of a request.
+/// The choices that a request makes about the file of times and about waits for the disk.
 #[derive(Clone, Copy)]
 pub(crate) struct Choices {
     /// By how many seconds the clock of the times is ahead of UTC, across midnight; none if there are no times.
@@ -30,7 +30,7 @@ pub(crate) struct Choices {
 }
 
 impl Choices {
-    /// The choices that a request makes.
+    /// The choices that a request makes, or the refusal of a value that has no meaning.
     pub(crate) fn of(request: &Request) -> Result<Self, Refusal> {
         let zone = match &request.times {
             None => None,
@@ -50,7 +50,8 @@ impl Choices {
     }
 }
 
-/// The seconds that a sign and HHMM name: 68,400 for `-0500`.
+/// By how many seconds a zone is ahead of UTC, across midnight. The zone is a sign and HHMM: `-0500` gives 68,400. `None` for
+/// another text.
 fn zone_of(text: &[u8]) -> Option<u64> {
     let [
         sign,

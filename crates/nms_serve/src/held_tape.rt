@@ -19,18 +19,18 @@ use std::fs::File;
 /// The tape of a run.
 #[derive(Drop)]
 pub(crate) struct HeldTape {
-    /// The file of its setup. Its lock is held while this is open.
+    /// The file of the tape's setup. The run holds the tape's lock while this file is open.
     pub(crate) setup: File,
-    /// What an earlier run has left, if this one goes on with it. Else there is no file of an epoch.
+    /// What an earlier run has left of the tape, if this run goes on with it. Else there is no file of an epoch.
     pub(crate) left: Option<LeftRun>,
 }
 
-/// The tape that a request names, as it is found. Nothing of it is altered or made.
+/// The tape that a request names, as it is found. Its files are not altered, and none is made.
 #[derive(Drop)]
 pub(crate) struct FoundTape {
-    /// The file of its setup, locked, if there is one.
+    /// The file of the tape's setup, locked, if there is one.
     pub(crate) setup: Option<File>,
-    /// What an earlier run has left, if this one goes on with it.
+    /// What an earlier run has left of the tape, if this run goes on with it.
     pub(crate) left: Option<LeftRun>,
 }
 
@@ -82,7 +82,7 @@ pub(crate) fn find_tape(
     })
 }
 
-/// Holds a tape that was found, and returns the file of its setup. A new tape is given one.
+/// Holds a tape that was found, and returns the file of its setup. If there is none, a new one is made.
 pub(crate) fn hold_setup(
     host: &HostRuntime,
     text: &[u8],

@@ -28,10 +28,10 @@ pub(crate) struct LeftTape<'a> {
 /// What is left of an epoch.
 #[derive(Drop)]
 pub(crate) struct LeftEpoch {
-    /// The path of its tape, and that of its lengths.
+    /// The path of the epoch's tape, and the path of the tape's published lengths.
     pub(crate) tape: String,
     pub(crate) lengths: String,
-    /// The path of its times. There may be no such file.
+    /// The path of the times of the epoch's changes. There may be no such file.
     pub(crate) times: String,
     pub(crate) left: LeftBoard,
 }
@@ -84,7 +84,7 @@ impl LeftTape<'_> {
         }
     }
 
-    /// The bytes of a file; none if it is missing and may be.
+    /// The bytes of a file. If the file is missing, it gives no bytes if `may_lack` holds, and is refused otherwise.
     fn read(&self, stream: Stream, path: &str, may_lack: bool) -> Result<Vec<u8>, Refusal> {
         match fs::metadata(self.host, path) {
             Ok(found) if found.is_file() => {}
@@ -104,7 +104,8 @@ impl LeftTape<'_> {
 }
 
 impl LeftEpoch {
-    /// Cuts the files after what was published. No one saw what is cut. There may be no times, or fewer.
+    /// Cuts an epoch's files after the changes that were published. No client saw what is cut. The file of times may be missing
+    /// or shorter.
     pub(crate) fn cut(&self, host: &HostRuntime) -> Result<(), Refusal> {
         if fs::metadata(host, self.times.as_str()).is_ok() {
             let end = (self.left.published as u64).checked_mul(TIME_LINE);
@@ -156,7 +157,7 @@ fn refused_left(fault: ResumeFault, tape: &str, lengths: &str) -> Refusal {
     }
 }
 
-/// Cuts a file, if it is longer.
+/// Cuts a file to the given length in bytes, if it is longer. A failure is a refusal that names the file.
 fn cut_file(host: &HostRuntime, stream: Stream, path: &str, end: u64) -> Result<(), Refusal> {
     match try_cut(host, path, end) {
         Ok(()) => Ok(()),
@@ -164,7 +165,7 @@ fn cut_file(host: &HostRuntime, stream: Stream, path: &str, end: u64) -> Result<
     }
 }
 
-/// As `cut_file`.
+/// Cuts a file to the given length in bytes, if it is longer. A failure is the system's error.
 fn try_cut(host: &HostRuntime, path: &str, end: u64) -> io::Result<()> {
     let file = OpenOptions::new().write(true).open(host, path)?;
     if file.metadata()?.len() > end {

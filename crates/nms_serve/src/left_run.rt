@@ -15,7 +15,7 @@ use nms_serving::{MOST_EPOCHS, ServeFault, Text};
 pub(crate) struct LeftRun {
     /// The last epoch of which something was published, if there is one.
     pub(crate) from: Option<LeftEpoch>,
-    /// The epoch after that, if its files were made. Nothing of it was published.
+    /// The last epoch, if its files were made and nothing of it was published.
     pub(crate) begun: Option<LeftEpoch>,
     /// The epoch in which this run goes on.
     pub(crate) epoch: u64,
@@ -36,7 +36,7 @@ impl LeftTape<'_> {
         Ok(Some(self.left_of(last)?))
     }
 
-    /// What a run with this last epoch has left.
+    /// What a run has left, given the number of its last epoch.
     fn left_of(&self, last: u64) -> Result<LeftRun, Refusal>
         ensures sizes { IfOk result (λ left. IsOfRoster (sizes_of self.now.setup.now.roster) (Some left)) }
         ensures next { IfOk result (λ left. HasNext (Some left)) }
@@ -83,7 +83,7 @@ impl LeftRun {
         }
     }
 
-    /// The report of what was left, up to the number of the opening changes.
+    /// The beginning of the report of what was left. The number of opening changes is added to it later.
     pub(crate) fn report(&self) -> Text {
         let epoch = self.epoch;
         match (&self.from, &self.begun) {

@@ -40,7 +40,7 @@ fn main(rt: HostRuntime) -> ExitCode {
     }
 }
 
-/// Serves the arguments of the process, and gives the exit status.
+/// Does what the arguments of the process ask for, and gives the exit status.
 fn answer_words<R: Threads + Wait + Sync + Copy + Send + 'static>(
     rt: &R,
     host: &HostRuntime,
@@ -55,7 +55,7 @@ fn answer_words<R: Threads + Wait + Sync + Copy + Send + 'static>(
     }
 }
 
-/// Serves the given arguments, and gives the exit status.
+/// Does what the given arguments ask for, and gives the exit status.
 fn answer<R: Threads + Wait + Sync + Copy + Send + 'static>(
     rt: &R,
     host: &HostRuntime,

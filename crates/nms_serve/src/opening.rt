@@ -65,18 +65,18 @@ fn answer_request<R: Threads + Wait + Sync>(
     )
 }
 
-/// A request with the things that it names.
+/// A request with the setup, the files and the choices that it names.
 #[derive(Clone, Copy)]
 struct Call<'a> {
     request: &'a Request,
-    /// The text of its setup, and the setup.
+    /// The text of the request's setup, and the setup that was read from it.
     text: &'a [u8],
     setup: &'a Setup,
     signs: Signs<'a>,
     choices: Choices,
 }
 
-/// A request with the things that it names, all borrowed for one lifetime.
+/// Puts a request and what it names together. The prover joins the lifetimes of several loans only at a call that asks for one.
 fn call_of<'a>(
     request: &'a Request,
     text: &'a [u8],
@@ -95,7 +95,7 @@ fn call_of<'a>(
     }
 }
 
-/// As `answer_request`.
+/// Serves a request whose setup was read, and gives the exit status: 0 if `--check` is given. Else it fails if no run begins.
 fn answer_call<R: Threads + Wait + Sync>(
     rt: &R,
     host: &HostRuntime,
@@ -213,7 +213,7 @@ fn end_cut_line(host: &HostRuntime, path: &str, mut file: &File) -> io::Result<(
     }
 }
 
-/// The record with its name.
+/// The file of the record with its path, if a record is asked for.
 fn record_of<'a>(request: &'a Request, file: Option<&'a File>) -> Option<Record<'a>> {
     let (Some(path), Some(file)) = (&request.recorded, file) else {
         return None;
@@ -240,7 +240,7 @@ fn check_request(setup: &Setup, request: &Request) -> Result<(), Refusal> {
     Ok(())
 }
 
-/// What a call asks for next to its streams.
+/// The files that a call asks for in addition to its streams.
 #[derive(Clone, Copy)]
 struct Own<'a> {
     signs: Signs<'a>,
@@ -271,7 +271,7 @@ fn disk_of<'a>(call: &Call<'a>) -> Option<TapeDisk<'a>> {
     }
 }
 
-/// How a request goes on.
+/// The choices by which a request's run goes on, such as whether a refused record ends it.
 fn ways_of(request: &Request) -> Ways {
     Ways {
         strict: request.strict,
@@ -335,7 +335,7 @@ fn serve_tape<R: Threads + Wait + Sync>(
     or_refused(serve(means, doors, tape, lengths, paths))
 }
 
-/// The result of a run, if it began.
+/// The result of a run that began, or the refusal with the fault because of which no run began.
 fn or_refused(served: Result<Served, ServeFault>) -> Result<Served, Refusal> {
     match served {
         Ok(served) => Ok(served),

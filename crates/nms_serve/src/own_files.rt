@@ -21,7 +21,7 @@ pub(crate) struct NewPaths {
 }
 
 impl NewPaths {
-    /// The paths for a request.
+    /// The paths under which a request's files of the run's state are written first.
     pub(crate) fn of(alloc: Global, request: &Request) -> Result<Self, AllocError> {
         Ok(NewPaths {
             status: new_of(alloc, request.status.as_ref())?,
@@ -46,7 +46,7 @@ fn new_of(alloc: Global, path: Option<&String>) -> Result<Option<String>, AllocE
     }
 }
 
-/// A file with both its paths.
+/// A file of the run's state, with its path and the path under which it is written first.
 fn sign_of<'a>(path: Option<&'a String>, new: Option<&'a String>) -> Option<Sign<'a>> {
     match (path, new) {
         (Some(path), Some(new)) => Some(Sign {
@@ -67,7 +67,7 @@ pub(crate) struct Spot<'a> {
 }
 
 impl<'a> Spot<'a> {
-    /// The spot of a path, whose folder has to be there.
+    /// The folder and the name of a path. The folder has to be there.
     fn of(host: &HostRuntime, path: &'a str) -> io::Result<Self> {
         let (folder, name) = parts_of(path);
         let found = fs::metadata(host, if folder.is_empty() { "." } else { folder })?;
@@ -79,13 +79,13 @@ impl<'a> Spot<'a> {
         })
     }
 
-    /// Whether two spots are in one folder.
+    /// Whether two files are in one folder.
     fn is_beside(&self, other: &Spot<'_>) -> bool {
         self.device == other.device && self.inode == other.inode
     }
 }
 
-/// The files that a run makes. No two of them have the same spot, and none has that of a file of the tape, of any epoch.
+/// The files that a run makes. No two of them have the same folder and name, and none has those of a file of the tape.
 #[derive(Drop)]
 pub(crate) struct OwnFiles<'a> {
     host: &'a HostRuntime,
@@ -106,7 +106,7 @@ impl<'a> OwnFiles<'a> {
         }
     }
 
-    /// Adds the two paths of a file of the run's state. A file that is there has to be such a file.
+    /// Adds the two paths of a file of the run's state. If a file is there already, it has to be one of a run's state.
     pub(crate) fn add_sign(&mut self, sign: Option<Sign<'a>>) -> Result<(), Refusal> {
         let Some(sign) = sign else {
             return Ok(());
@@ -118,7 +118,7 @@ impl<'a> OwnFiles<'a> {
         check_state(self.host, sign.new)
     }
 
-    /// Adds the path of the record, which has to be new. But a run that goes on may go on with its record.
+    /// Adds the path of the record, which has to be new. Only a run that goes on with an earlier one may use a record again.
     pub(crate) fn add_record(&mut self, path: &'a str, is_on: bool) -> Result<(), Refusal> {
         self.add(path)?;
         match fs::metadata(self.host, path) {
@@ -131,7 +131,8 @@ impl<'a> OwnFiles<'a> {
         }
     }
 
-    /// Adds a path.
+    /// Adds the path of a file that the run makes. It is refused if another such file, or a file of the tape, has the same folder
+    /// and name.
     pub(crate) fn add(&mut self, path: &'a str) -> Result<(), Refusal> {
         let spot = match Spot::of(self.host, path) {
             Ok(spot) => spot,
@@ -175,7 +176,8 @@ fn check_state(host: &HostRuntime, path: &str) -> Result<(), Refusal> {
     }
 }
 
-/// Whether a file is empty, or begins as a file of a run's state does. Its writing may have been interrupted.
+/// Whether a file begins as a file of a run's state does. It may be shorter or empty, since its writing may have been
+/// interrupted.
 fn begins_right(host: &HostRuntime, path: &str) -> io::Result<bool> {
     let mut file = File::open(host, path)?;
     let mut begin = [0; 4];

@@ -23,7 +23,7 @@ pub(crate) enum ProgramFault {
     NoSetup,
     /// The setup is refused.
     Setup(SetupFault),
-    /// There is a file of the tape.
+    /// A file of the tape is there already.
     TapeThere,
     /// The tape is held by another run, or a run can't go on with it.
     Tape(TapeFault),
@@ -39,7 +39,7 @@ pub(crate) enum ProgramFault {
     SyncForm,
     /// There is a record already.
     RecordThere,
-    /// The tape of the setup has no room for epochs. The number is the least `tape_limit` that has.
+    /// The tape's limit in the setup leaves no room for epochs. The number is the least `tape_limit` that leaves room.
     ShortTape(u64),
     /// A thread of the process could not be started.
     NoThread,

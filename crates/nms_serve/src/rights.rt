@@ -23,7 +23,8 @@ pub(crate) struct Rights {
 }
 
 impl Rights {
-    /// The rights of this process. If they can't be read, it may do everything, and the run finds out the rest.
+    /// The rights of this process. If they can't be read, the check assumes that the process may do everything, and only a run
+    /// finds out more.
     pub(crate) fn of_process(host: &HostRuntime) -> Result<Self, AllocError> {
         let mut rights = Rights {
             is_free: false,
@@ -72,7 +73,7 @@ impl Rights {
     }
 }
 
-/// Whether a byte is between two words.
+/// Whether a byte is a space or a tab, which separate the words of a line.
 fn is_space(byte: &u8) -> bool {
     *byte == b'\t' || *byte == b' '
 }

@@ -31,7 +31,7 @@ pub(crate) fn run_request<R: Threads + Wait + Sync + Copy + Send + 'static>(
     Ok(teller.wait_for_end(rt, host))
 }
 
-/// One teller, which three threads share. Its lines may have their times.
+/// One teller, which three threads share. If `has_times` holds, each of its lines begins with the time.
 fn tellers_in(host: &HostRuntime, has_times: bool) -> Result<[Arc<Teller>; 3], AllocError> {
     let (alloc, clock) = (host.alloc(), if has_times { Some(*host) } else { None });
     let teller = Arc::new(alloc, Teller::new(alloc, clock)?)?;

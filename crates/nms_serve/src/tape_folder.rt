@@ -13,10 +13,10 @@ pub(crate) const TIMES: &str = ".times";
 /// The end of the name of the file with the setup's text.
 pub(crate) const SETUP: &str = ".setup";
 
-/// The part of a tape that a name is of.
+/// Which kind of a tape's file has a given name.
 #[derive(Clone, Copy, Debug, PartialEq, Eq)]
 pub(crate) enum Part {
-    /// The file of its setup.
+    /// The file with the text of the tape's setup.
     Setup,
     /// One of an epoch's three files.
     Epoch(u64),
@@ -73,7 +73,7 @@ pub(crate) fn refuse_files(host: &HostRuntime, files: &[TapeFile]) -> Result<(),
     Ok(())
 }
 
-/// Whether what was found is a FIFO or a character device.
+/// Whether the file that was found at a path is a FIFO or a character device.
 pub(crate) fn is_device(found: io::Result<fs::Metadata>) -> bool {
     match found {
         Ok(found) => found.file_type().is_fifo() || found.file_type().is_char_device(),

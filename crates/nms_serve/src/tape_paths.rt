@@ -15,7 +15,7 @@ use std::{fs, io};
 /// A file of the tape as a stream of the run.
 type Kept<'a> = Guarded<'a, OnDisk<'a, File>>;
 
-/// The files of an epoch: its tape, with its times, and its lengths.
+/// The files of an epoch: its tape, with the file of its times, and its published lengths.
 pub(crate) type TwoFiles<'a> = (Timed<'a, Kept<'a>>, Kept<'a>);
 
 /// Opens the files of the tape: PATH and PATH.published, then PATH.1 and PATH.1.published, and so on.
@@ -56,8 +56,8 @@ impl<'a> TapePaths<'a> {
         }
     }
 
-    /// The files of an epoch as streams of the run, with that of its times. If the run waits for the disk, the disk has their
-    /// names then.
+    /// The files of an epoch as streams of the run, together with the file of its times. If the run waits for the disk, the
+    /// disk has the files' names when this returns.
     fn with_times(
         &self,
         tape: File,
@@ -112,7 +112,7 @@ impl<'a> TapePaths<'a> {
         self.or_unwritten(Stream::Tape, epoch, synced)
     }
 
-    /// The fault of a file that the disk did not take, which ends the run.
+    /// Ends the run if the disk did not take a file, and returns the fault.
     fn or_unwritten(
         &self,
         stream: Stream,

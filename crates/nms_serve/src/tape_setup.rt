@@ -8,7 +8,7 @@ use std::fs::{File, OpenOptions, TryLockError};
 use std::io;
 use std::io::{ErrorKind, Read, Write};
 
-/// Makes the file of a new tape's setup, and holds it while it is open.
+/// Makes the file of a new tape's setup and locks it. The lock lasts as long as the file is open.
 pub(crate) fn hold_new(host: &HostRuntime, path: &str) -> Result<File, Refusal> {
     match OpenOptions::new()
         .write(true)
@@ -23,7 +23,7 @@ pub(crate) fn hold_new(host: &HostRuntime, path: &str) -> Result<File, Refusal> 
     }
 }
 
-/// Holds the file of an earlier tape's setup while it is open. `None` if there is none.
+/// Locks the file of an earlier tape's setup. The lock lasts as long as the file is open. `None` if there is no such file.
 pub(crate) fn hold_left(host: &HostRuntime, path: &str) -> Result<Option<File>, Refusal> {
     match OpenOptions::new().read(true).write(true).open(host, path) {
         Ok(file) => match file.metadata() {
@@ -36,7 +36,7 @@ pub(crate) fn hold_left(host: &HostRuntime, path: &str) -> Result<Option<File>, 
     }
 }
 
-/// The file, once its lock is held.
+/// Locks a file and returns it. It is refused if another run has locked it.
 fn held(file: File, path: &str) -> Result<File, Refusal> {
     match file.try_lock() {
         Ok(()) => Ok(file),

@@ -22,16 +22,16 @@ use std::sync::Wait;
 use std::thread::Threads;
 use std::{io, thread};
 
-/// The source of a client's requests, and the target of its answers.
+/// The source of a client's requests, and the target of the answers to that client.
 #[derive(Drop)]
 pub enum ClientStreams<'a> {
     /// The client uses standard input and standard output.
     Standard,
     /// The client uses two paths.
     Paths {
-        /// The path of its requests.
+        /// The path from which the client's requests are read.
         input: Door<'a>,
-        /// The path of its answers.
+        /// The path to which the answers to the client are written.
         output: Door<'a>,
     },
 }
@@ -48,12 +48,12 @@ pub struct ClientEnd {
 /// A client of a run.
 #[derive(Drop)]
 pub(crate) struct Client<'a, L> {
-    /// Its number, from 1.
+    /// The client's number, from 1.
     pub(crate) number: u8,
     pub(crate) streams: &'a ClientStreams<'a>,
-    /// Where it finds its desks of later epochs.
+    /// The place in which the client finds its desks of later epochs.
     pub(crate) later: L,
-    /// How many of its requests were answered.
+    /// The counts of the client's requests that were answered.
     pub(crate) tally: &'a Tally,
 }
 
@@ -163,7 +163,7 @@ fn open_both<R: Threads + Wait + Sync>(
     )
 }
 
-/// The stream, if it was opened at a door; else the fault that ends the run.
+/// The file of a client's path, if it could be opened; else the fault that ends the run.
 fn opened(
     run: &Run<'_>,
     door: &Door<'_>,
@@ -176,7 +176,7 @@ fn opened(
     }
 }
 
-/// Answers the requests of a stream, once they are no longer held.
+/// Answers the requests of a stream. If requests are held until each feed has sent a change or ended, it waits for that first.
 fn answer_from<R: Wait, S: Read + Drop, W: Write + Drop, L: LaterDesks>(
     means: &Means<'_, R>,
     client: &Client<'_, L>,

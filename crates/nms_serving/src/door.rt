@@ -15,13 +15,13 @@ use std::thread::Threads;
 use std::time::Duration;
 use std::{fs, io, thread};
 
-/// How many seconds a thread that wakes another keeps a FIFO open. It is longer than the process goes on.
+/// How many seconds a thread keeps a FIFO open to wake another thread: a day. The process ends long before.
 const KEPT: u64 = 86_400;
 
-/// How many milliseconds the answers stay in a FIFO for their reader. This product's own rule.
+/// How many milliseconds a router has to read the last answers from a FIFO before they are dropped. This product's own rule.
 const LEFT: u64 = 600;
 
-/// The end of a FIFO that a thread of the run has.
+/// Whether a thread of the run reads from a FIFO or writes to it.
 #[derive(Clone, Copy)]
 pub(crate) enum Side {
     /// The thread reads from the FIFO.
@@ -37,7 +37,7 @@ pub struct Door<'a> {
 }
 
 impl<'a> Door<'a> {
-    /// A door at a path.
+    /// A path that a thread of the run may open.
     pub fn new(path: &'a str) -> Self
         ensures { path_of result ≡ path.now }
     {
@@ -54,7 +54,7 @@ impl<'a> Door<'a> {
         self.open(files, run, OpenOptions::new().append(true))
     }
 
-    /// The name of the stream that is opened here.
+    /// The stream that is opened at this path, together with the path, as a fault reports it.
     pub(crate) fn named(&self, stream: Stream) -> Named<'a> {
         Named {
             stream,
@@ -63,7 +63,7 @@ impl<'a> Door<'a> {
         }
     }
 
-    /// Ends the run, since a stream could not be opened here, and gives the fault.
+    /// Ends the run because the stream at this path could not be opened, and returns the fault.
     pub(crate) fn refuse(&self, run: &Run<'_>, stream: Stream, error: &io::Error) -> ServeFault {
         let fault = ServeFault::NotOpened(stream);
         run.fail_at(fault, self.named(stream), error);
@@ -78,9 +78,9 @@ impl<'a> Door<'a> {
         how.open(files, self.path)
     }
 
-    /// Opens the FIFO to read it, and waits for no writer: it has one during this call, and none afterwards. The second opening
-    /// uses the path of the first one's file, so both are of one FIFO, even if the path names another by then. `None` if the
-    /// path names nothing by now.
+    /// Opens the FIFO to read it, without a wait for a writer. It is opened twice: first to read and write, so that the second
+    /// opening finds a writer. Afterwards the run has no writer there. The second opening uses the path of the first one's
+    /// file. So both are of one FIFO, even if the path names another by then. `None` if the path names nothing by now.
     pub(crate) fn open_anew(
         &self,
         files: &HostRuntime,
@@ -96,8 +96,8 @@ impl<'a> Door<'a> {
         }
     }
 
-    /// Opens the path to append to its file, and waits for no reader of a FIFO, as `open_anew` waits for no writer. `None` if the
-    /// path names nothing by now.
+    /// Opens the path to append to its file. It does not wait for a reader, even if the file is a FIFO. `None` if the path
+    /// names nothing by now.
     pub(crate) fn answer_anew(
         &self,
         files: &HostRuntime,
@@ -143,8 +143,8 @@ impl<'a> Door<'a> {
         now.file_type().is_fifo() && (now.ino() != then.ino() || now.dev() != then.dev())
     }
 
-    /// Wakes the thread of the run that waits here at a FIFO, if one does. Another thread does that, so that the process can
-    /// end without waiting for it. It opens both ends of the FIFO, and writes a line feed or reads what is in it.
+    /// Wakes the thread of the run that waits at this path's FIFO, if there is one. A separate thread does that, so that the
+    /// process can end without waiting for it. It opens both ends of the FIFO, and writes a line feed or reads what is in it.
     pub(crate) fn wake<R: Threads>(&self, rt: &R, host: &HostRuntime, alloc: Global, side: Side) {
         if !self.is_fifo(host) {
             return;

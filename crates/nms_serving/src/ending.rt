@@ -1,10 +1,10 @@
-//! A stream whose reader ends with the run, and not as at the stream's own end.
+//! A stream that fails once the run was asked to end, so that its reader does not take this for the stream's own end.
 use crate::run::Run;
 use std::io;
 use std::io::{ErrorKind, Read};
 
-/// A stream of a run. After the run was asked to end, it fails instead of being at its end. So the beginning of a line is
-/// dropped and not refused.
+/// A stream of a run. After the run was asked to end, it fails instead of being at its end. So the reader drops an incomplete
+/// last line, and does not refuse it as a record.
 #[derive(Drop)]
 pub(crate) struct Ending<'a, F> {
     stream: F,

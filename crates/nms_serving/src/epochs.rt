@@ -1,4 +1,4 @@
-//! The epochs of a run: when a tape has as many changes as it may, the next one goes on.
+//! The epochs of a run: when the tape of one epoch is full, the next epoch goes on with a new tape.
 ghost use Rattle.std.specs.Prelude.{◌≡◌, ℕ, ◌*◌, ◌<◌, ◌≤◌, length, slice_index_or};
 ghost use Rattle.nms_quote.specs.Roster.{sizes_of};
 ghost use Rattle.nms_quote.specs.declared.TheConstants.{MOST_CHANGES};
@@ -18,9 +18,9 @@ use std::marker::PhantomData;
 use std::mem::replace;
 use std::sync::Wait;
 
-/// The opener of an epoch's files: its tape, and the lengths next to it.
+/// The opener of an epoch's two files: its tape, and the list of the tape's published lengths.
 pub trait EpochFiles<X, Y> {
-    /// Opens the files of an epoch, counted from 0. Each has to be empty.
+    /// Opens the two files of an epoch. Epochs are counted from 0. Each file has to be empty.
     fn open(&self, epoch: u64) -> Result<(X, Y), ServeFault>;
 }
 
@@ -164,7 +164,7 @@ impl<'a, H: House, X: Write, Y: Write> Epochs<'a, H, X, Y> {
         }
     }
 
-    /// Goes on with the keeper of the next epoch, and ends the publishing of this one.
+    /// Goes on with the tape and the board of the next epoch, and ends the publishing of the present one.
     fn go_on<R: Wait>(&mut self, rt: &R, keeper: Keeper<'a, X, Y>)
     where
         X: Drop,

@@ -56,9 +56,9 @@ pub(crate) fn feed_all<R: Wait + Sync>(
     end
 }
 
-/// Opens a feed's path, and sends the changes of its stream. If the run reads on, a FIFO whose writer left is read on: this end
-/// stays open, so that no writer finds it closed. A last record without its line feed is refused first. If a FIFO was removed
-/// and made again, the new one is opened.
+/// Opens a feed's path, and sends the changes of its stream. If the run keeps FIFOs open, it reads on after the writer of a
+/// FIFO left. The run's end stays open, so that no writer finds it closed. A last record without its line feed is refused
+/// first. If a FIFO was removed and made again, the new one is opened.
 fn read_feed<R: Wait + Sync>(
     means: &Means<'_, R>,
     door: &Door<'_>,
@@ -78,7 +78,8 @@ fn read_feed<R: Wait + Sync>(
     let is_kept = run.ways.keep && is_open_fifo(&file);
     let watcher = Watcher::new(means.rt, means.host, run);
     for _ in 0..u64::MAX {
-        // The clients are checked before the stream: changes written before they ended are still read.
+        // The run's clients are checked before the feed is read. So changes that were written before the clients ended are
+        // still read.
         let is_last = !is_kept || run.is_closing();
         voice.begin_to_read();
         read_writer(means, door, &mut file, &watcher, counts, sender)?;

@@ -47,7 +47,7 @@ impl<F: Read> Read for Guarded<'_, F> {
             return Ok(0);
         }
         let read = self.stream.read(buf);
-        // The line feed that woke the thread is no part of the stream.
+        // The run itself wrote a line feed to wake this thread. It is no part of the stream.
         if self.run.is_stopped() {
             return Ok(0);
         }

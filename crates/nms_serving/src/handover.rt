@@ -11,7 +11,8 @@ use std::marker::{Brand, PhantomData};
 use std::sync::atomic::{AtomicU64, Ordering};
 use std::sync::{Mutex, Wait};
 
-/// The types that all epochs of a run share. Each run picks its own; no value of it is made.
+/// A type that marks the sizes of a run's roster, which all its epochs share. Each run has its own such type, and makes no
+/// value of it.
 pub(crate) trait Sizing {
     ghost use Rattle.nms_quote.specs.Roster.{Sizes};
 
@@ -32,11 +33,11 @@ pub(crate) trait House: Drop {
     // The sizes of the roster.
     ghost sizes: { Sizes };
 
-    /// Keeps a desk.
+    /// Wraps a desk, so that its type says which roster it has.
     fn keep(desk: EpochDesk) -> Self
         requires sizes { desk.desk.sizes ≡ sizes };
 
-    /// Gives the desk back.
+    /// Returns the desk that was wrapped.
     fn give(self) -> EpochDesk
         ensures sizes { result.desk.sizes ≡ sizes };
 }
@@ -65,10 +66,10 @@ impl<B: Sizing> House for HouseDesk<B> {
     }
 }
 
-/// The place in which a client finds its desk of the latest epoch, until it goes over to it.
+/// The place in which a client finds its desk of the latest epoch, until the client goes over to that epoch.
 #[derive(Drop)]
 pub(crate) struct Slot<H: House> {
-    /// The latest epoch whose desk was put here; 0 if none was.
+    /// The latest epoch whose desk was put into this slot; 0 if none was.
     epoch: AtomicU64,
     desk: Mutex<Option<H>>,
     /// How many requests of the client were answered.
@@ -85,7 +86,7 @@ impl<H: House> Slot<H> {
         }
     }
 
-    /// Puts a desk here, in place of the desk of an earlier epoch to which the client never went over.
+    /// Puts a desk into the slot, in place of the desk of an earlier epoch to which the client never went over.
     pub(crate) fn lay<R: Wait>(&self, rt: &R, desk: EpochDesk)
         requires sizes { desk.desk.sizes ≡ H.sizes }
     {
@@ -94,7 +95,7 @@ impl<H: House> Slot<H> {
         self.epoch.store(epoch, Ordering::SeqCst);
     }
 
-    /// Takes the desk, if its epoch is later than the given one.
+    /// Takes the desk out of the slot, if its epoch is later than the given one.
     fn take<R: Wait>(&self, rt: &R, epoch: u64) -> Option<EpochDesk>
         ensures later { IfSome result (λ next. epoch < next.epoch) }
         ensures sizes { IfSome result (λ next. next.desk.sizes ≡ H.sizes) }
@@ -118,7 +119,7 @@ pub(crate) struct SlotOf<'a, R, H: House> {
     pub(crate) slot: &'a Slot<H>,
     /// The client's number, from 1.
     pub(crate) number: u8,
-    /// The file to which its answers are recorded.
+    /// The file to which the client's requests and answers are recorded, if the run records them.
     pub(crate) recording: Option<Record<'a>>,
 }
 

@@ -32,8 +32,8 @@ use std::sync::Wait;
 /// The taker of a board that runs: it takes the changes of an epoch in, writes each batch, and then publishes it. It is not
 /// `Drop`, so end it by `end`.
 ///
-/// `serve` runs one in threads, over paths. Another server calls it in the thread that takes, with any two writers. It gives
-/// the desks of the same opening to the threads that look.
+/// The function `serve` runs a keeper in threads, over paths. Another server calls a keeper in its own thread that takes
+/// changes, with any two writers. It gives the desks of the same opening to its threads that look.
 ///
 /// If a publishing fails, a file may have a prefix of a text, or all of it. A later batch would follow that part, so end the
 /// keeper.
@@ -111,8 +111,8 @@ impl<'a, X: Write, Y: Write> Keeper<'a, X, Y> {
     /// The keeper of the next epoch, over a tape that was just opened and its files. It begins from this keeper's board
     /// (`begin`), so a look shows the same before and after.
     ///
-    /// This keeper stays as it is, also at a fault, which is one of `begin`. Then the publishing of the new tape has ended, and
-    /// its files may have a prefix of a text.
+    /// This keeper stays as it is, also at a fault. The faults are those of `begin`. After a fault, the publishing of the new
+    /// tape has ended, and its files may have a prefix of a text.
     pub fn next<R: Wait>(
         &self,
         alloc: Global,
@@ -174,14 +174,14 @@ impl<'a, X: Write, Y: Write> Keeper<'a, X, Y> {
         ensures listed { OnOk result (Appends (Y.contents self.old.lengths) (Y.contents self.new.lengths) (opening_lines (tape_of self.new.publisher))) }
         ensures alike { OnOk result ((sym : ℕ) → sym < length board.now.sizes.lots → ShowAlike board.now self.new.board sym) }
     {
-        // Its count says that nothing of an empty tape is published.
+        // The call shows the prover that nothing of an empty tape is published.
         let _none = self.changes();
         let Ok(first) = opening(alloc, board) else {
             return Err(ServeFault::NoMemory);
         };
         match self.open_with(rt, &first) {
             Ok(()) => {
-                // Its count says that its board is the tape's.
+                // The call shows the prover that the keeper's board is the board of its tape.
                 let _kept = self.changes();
                 Ok(())
             }
@@ -262,12 +262,11 @@ impl<'a, X: Write, Y: Write> Keeper<'a, X, Y> {
         self.changes() - self.published
     }
 
-    /// Takes a change in. Once `MOST_BATCH` changes wait, they are published, as by `publish`.
+    /// Takes a change in. Once `MOST_BATCH` changes wait, they are written to the tape's file and then published.
     ///
-    /// `TapeFull` if and only if the tape has as many changes as it may, or the change is not of the roster. It leaves
-    /// everything as it was, and so does `NoMemory` of the tape. If the publishing fails, the change is on the tape, and no
-    /// desk sees it:
-    /// `changes` distinguishes these.
+    /// `TapeFull` if and only if the tape has as many changes as it may, or the change is not of the roster. `TapeFull` leaves
+    /// everything as it was, and so does `NoMemory` if the tape can't grow. If the publishing fails, the change is on the tape,
+    /// and no desk sees it. The count of changes (`changes`) distinguishes the two cases.
     #[tactic(auto, using(crate::proofs::KeeperFacts::longer_appended))]
     pub fn take_in<R: Wait>(&mut self, rt: &R, change: &Change) -> Result<(), ServeFault>
         ensures shown { OnOk result ((self.new ≡ with_change self.old change.now)
@@ -310,12 +309,12 @@ impl<'a, X: Write, Y: Write> Keeper<'a, X, Y> {
         Ok(())
     }
 
-    /// Writes the waiting changes to the tape's file and the tape's length to the file next to it, and then publishes them. If
-    /// either can't be written, nothing is published. So both writes have succeeded before any desk sees the changes. `waiting`
-    /// returns how many there are.
+    /// Writes the waiting changes to the tape's file and the tape's length to the file of lengths, and then publishes the
+    /// changes. If either can't be written, nothing is published. So both writes have succeeded before any desk sees the
+    /// changes. `waiting` returns how many changes wait.
     ///
     /// `NotWritten` if a writer fails, which may have taken a prefix, or `NoMemory`. Then the changes still wait, and no desk
-    /// sees them. Unless the tape's file has all of the text, the other has nothing more.
+    /// sees them. Nothing is added to the file of lengths unless the tape's file has the complete text.
     #[tactic(auto, using(crate::proofs::KeeperFacts::stands_still, crate::proofs::KeeperFacts::as_long_published))]
     pub fn publish<R: Wait>(&mut self, rt: &R) -> Result<(), ServeFault>
         requires some { self.old.published < length (tape_of self.old.publisher) }
@@ -341,7 +340,7 @@ impl<'a, X: Write, Y: Write> Keeper<'a, X, Y> {
         Ok(())
     }
 
-    /// Writes the waiting changes to the tape's file, and the tape's length to the file next to it.
+    /// Writes the waiting changes to the tape's file, and the tape's length to the file of lengths.
     #[tactic(auto, using(crate::proofs::KeeperFacts::no_part, crate::proofs::KeeperFacts::whole_part, crate::proofs::KeeperFacts::leaves_first))]
     fn record(&mut self) -> Result<(), ServeFault>
         ensures same { self.new ≡ with_writers self.old self.new.tape self.new.lengths }

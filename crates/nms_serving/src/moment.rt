@@ -1,4 +1,4 @@
-//! The time before a line on standard error: 2026-11-30T20:22:18.123Z.
+//! The time that is printed before a line on standard error, such as 2026-11-30T20:22:18.123Z.
 use std::fmt;
 use std::time::Clock;
 

@@ -7,9 +7,9 @@ use crate::text::Text;
 pub struct Named<'a> {
     /// The stream.
     pub stream: Stream,
-    /// Its path. Every file of the tape has the path of the first epoch's tape here.
+    /// The path of the stream. For every file of a tape, it is the path of the first epoch's tape.
     pub path: &'a str,
-    /// The epoch, if it is a file of the tape; else 0.
+    /// The epoch, if the stream is a file of the tape; else 0.
     pub epoch: u64,
 }
 
@@ -25,7 +25,7 @@ impl Named<'_> {
         }
     }
 
-    /// The text with the number of a later epoch, as its tape is named.
+    /// The text of a line, with a full stop and the epoch's number added if the epoch is not the first.
     fn with_epoch(self, text: Text) -> Text {
         if self.epoch == 0 {
             return text;

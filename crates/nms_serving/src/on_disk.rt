@@ -9,8 +9,8 @@ use std::fs::OpenFile;
 use std::io;
 use std::io::{ErrorKind, Write};
 
-/// A file of the tape. If it waits, each write ends when the disk has it. If the disk fails, the run has ended by then, so that
-/// no answer is written after it.
+/// A file of the tape. If the run waits for the disk at each write, a write ends only when the disk has the bytes. If the disk
+/// fails, the run is ended first, so that no later answer is written.
 #[derive(Drop)]
 pub struct OnDisk<'a, F> {
     file: F,

@@ -1,7 +1,7 @@
 //! How far the board of a run is, as its other threads can read it.
 use std::sync::atomic::{AtomicU64, Ordering};
 
-/// The bits of a version: a tape has no more than 10,000,000 changes.
+/// How many bits a version takes. They suffice, since a tape has at most 10,000,000 changes.
 const VERSION_BITS: u32 = 24;
 
 /// How far the board is. The taker's thread notes it after each publishing. No proof relies on it.

@@ -9,12 +9,12 @@ use std::fs::File;
 use std::io;
 use std::io::{ErrorKind, Write};
 
-/// The file to which all clients' requests and answers are written. It was opened to append, so that each write of several threads is
-/// one piece.
+/// The file to which all clients' requests and answers are written. It was opened to append, so that each thread's write stays
+/// in one piece.
 #[derive(Clone, Copy)]
 pub struct Record<'a> {
     pub file: &'a File,
-    /// Its name, by which a fault reports it.
+    /// The stream and the path of this file, by which a fault reports it.
     pub named: Named<'a>,
 }
 

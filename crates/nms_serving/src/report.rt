@@ -48,7 +48,7 @@ struct Refused {
     feed: Feed,
     /// The record's number in its feed, from 1.
     number: u64,
-    /// Its fault.
+    /// Why the record was refused.
     fault: LineFault,
 }
 
@@ -66,7 +66,7 @@ pub(crate) struct Heard {
     pub(crate) feed: Feed,
     /// After how many seconds a feed is reported as silent.
     pub(crate) seconds: u32,
-    /// What is reported about it.
+    /// Whether the feed fell silent or sends again.
     pub(crate) notice: Notice,
 }
 
@@ -85,7 +85,7 @@ impl fmt::Display for Heard {
 pub(crate) enum FeedNotice {
     /// The feed has ended.
     Ended(FeedEnd),
-    /// Its writer has left, and the FIFO is read on.
+    /// The feed's writer has left, and its FIFO is read on.
     Left(FeedEnd),
 }
 

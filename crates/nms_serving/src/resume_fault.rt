@@ -3,14 +3,15 @@ use nms_files::ChangesFault;
 use std::fmt;
 use thiserror::Error;
 
-/// Why a run can't go on with the two files of an epoch. They are not what the end of a process leaves, or not under this setup.
+/// Why a run can't go on with the two files of an epoch. Apart from a lack of memory, no run under this setup leaves such
+/// files, whenever its process ends.
 #[derive(Clone, Copy, Debug, PartialEq, Eq, Error)]
 pub enum ResumeFault {
     /// A line of the lengths is no length, or is no greater than the one before it.
     BadLengths,
     /// The tape has fewer lines than its last length says.
     ShortTape,
-    /// More lines begin after the last length than may be written and not published.
+    /// After its last published length, the tape has more lines than a run writes before it publishes.
     TooMuch,
     /// The tape has blank lines, or several lines that form one record.
     NotLines,

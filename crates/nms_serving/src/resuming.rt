@@ -33,7 +33,7 @@ pub struct LeftBoard {
     pub tape_end: usize,
     /// How many bytes of the lengths' file are complete lines.
     pub lengths_end: usize,
-    /// How many changes begin after the cut.
+    /// How many changes begin after the place at which the tape's file is cut. They were not published.
     pub cut: u64,
 }
 
@@ -42,7 +42,7 @@ pub struct LeftBoard {
 struct Listed {
     /// The last of them; 0 if there is none.
     length: u64,
-    /// How many bytes they take.
+    /// How many bytes of the file list these lengths.
     end: usize,
 }
 
@@ -87,8 +87,8 @@ pub fn left_board(
     }
 }
 
-/// The lengths of a text of lines, each above the one before, and a part of one more. `None` if a complete line is not such a
-/// length.
+/// Reads the lengths that a file lists, one in each line and each greater than the one before. An incomplete last line is left
+/// out. `None` if a complete line is no such length.
 fn listed_lengths(listed: &[u8]) -> Option<Listed>
     ensures found { (lengths : List ℕ) (published : ℕ) (torn : List ℕ) → AreListed lengths published torn listed.now
         → result ≡ Some (record { length = published; end = length (lengths_text lengths) }) }
@@ -162,7 +162,7 @@ fn lines_begun(text: &[u8]) -> u64
     count
 }
 
-/// A law: the text of changes has one line for each. It has no effect.
+/// A fact for the prover: the text of a list of changes has one line for each change. The call has no effect.
 fn each_change_is_a_line(roster: &Roster)
     ensures behind { (changes : List Change) (rest : List ℕ) → after_lines (length changes) (changes_text roster.now changes ++ rest) ≡ Some rest }
     ensures begun { (changes : List Change) → lines_begun true (changes_text roster.now changes) ≡ length changes }
@@ -171,7 +171,7 @@ fn each_change_is_a_line(roster: &Roster)
     symbol_names_are_formed(roster);
 }
 
-/// How many more changes may be written but not published, if this number is published.
+/// The most changes that a run may have written but not yet published, after it has published the given number of changes.
 fn most_behind(setup: &Setup, published: u64) -> u64
     ensures { result ≡ most_behind setup.now.roster published }
 {
@@ -206,7 +206,8 @@ fn board_of(alloc: Global, setup: &Setup, text: &[u8], records: u64) -> Result<B
     Ok(board)
 }
 
-/// Why a text was not read. Bytes in memory are read to their end, except when out of memory.
+/// The reason why the changes in a text could not be read. The text is in memory, so that only a lack of memory can break off
+/// the reading.
 fn unread(fault: ChangesFault) -> ResumeFault
     ensures { is_of_line fault ≡ false → result ≡ ResumeFault.NoMemory }
 {

@@ -27,7 +27,7 @@ pub(crate) struct RouterRequests<'a, 'f, R> {
     number: u8,
     door: &'a Door<'a>,
     file: &'f File,
-    /// The byte that was read before, until it is passed on.
+    /// The first byte of the requests, until it is passed on. It was read while the run waited for the router.
     first: Option<u8>,
 }
 
@@ -49,7 +49,7 @@ impl<'a, 'f, R> RouterRequests<'a, 'f, R> {
         }
     }
 
-    /// Passes on the byte that was read before; else reads the file.
+    /// Passes on the first byte of the requests, which was read before. After that, it reads the file of the requests.
     fn read_on(&mut self, buf: &mut [u8]) -> io::Result<usize>
         ensures bound { ReadsAtMost result buf.new }
     {
@@ -86,9 +86,9 @@ pub(crate) struct RouterAnswers<'a, R> {
     means: &'a Means<'a, R>,
     number: u8,
     door: &'a Door<'a>,
-    /// The file; none if it could not be opened.
+    /// The file of the answers; none if it could not be opened.
     file: Option<File>,
-    /// Whether a part of an answer was written.
+    /// Whether a part of an answer was written to this router.
     has_begun: bool,
 }
 
@@ -109,7 +109,7 @@ impl<'a, R> RouterAnswers<'a, R> {
         }
     }
 
-    /// Writes once. If the path could not be opened before, it is opened first.
+    /// Writes bytes of an answer in one call. If the path of the answers could not be opened before, it is opened first.
     fn write_once(&mut self, buf: &[u8]) -> io::Result<usize>
         ensures bound { WritesAtMost result buf.now }
     {
@@ -135,7 +135,7 @@ impl<'a, R> RouterAnswers<'a, R> {
         !self.has_begun && !is_renewed && !self.means.run.is_stopped()
     }
 
-    /// Writes once there is a reader, as long as one may come.
+    /// Writes bytes of an answer. If there is no reader, it tries again for a short time, as long as a reader may come.
     fn write_in_time(&mut self, buf: &[u8]) -> io::Result<usize>
         ensures bound { WritesAtMost result buf.now }
     {

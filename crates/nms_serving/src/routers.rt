@@ -25,9 +25,9 @@ const PAUSE: u64 = 100;
 /// The two paths of a client.
 #[derive(Clone, Copy)]
 pub(crate) struct Paths<'a> {
-    /// The path of its requests.
+    /// The path from which the client's requests are read.
     pub(crate) input: &'a Door<'a>,
-    /// The path of its answers.
+    /// The path to which the answers to the client are written.
     pub(crate) output: &'a Door<'a>,
 }
 
@@ -44,7 +44,8 @@ struct Ends {
 /// The requests of each router are counted from 1. The desk stays, so no router sees an earlier version than the one before it.
 /// Returns how many requests all routers sent.
 ///
-/// Neither path is waited for. Each has to be there at first. Later this waits until it is there again.
+/// Both paths have to name a file at first, and neither opening waits for the other end. If a path's file is removed later,
+/// this waits until there is a file again.
 pub(crate) fn answer_routers<R: Wait, L: LaterDesks>(
     means: &Means<'_, R>,
     client: &Client<'_, L>,
@@ -108,7 +109,7 @@ fn wait_for_router<R: Wait>(means: &Means<'_, R>, paths: Paths<'_>, ends: &mut E
         renew_both(means, paths, ends);
         let mut requests = &ends.requests;
         if let Ok(1) = requests.read(&mut first) {
-            // The line feed that woke the thread is no request.
+            // The run itself wrote a line feed to wake this thread. It is no request.
             if means.run.is_stopped() {
                 return None;
             }
@@ -120,8 +121,8 @@ fn wait_for_router<R: Wait>(means: &Means<'_, R>, paths: Paths<'_>, ends: &mut E
     unreachable!()
 }
 
-/// Opens what was closed or made again. The answers come first. A router makes the requests again first, so new answers never
-/// go with old requests.
+/// Opens a client's FIFOs again if they were closed or made again: first that of the answers, then that of the requests. A
+/// router makes them in the other order, so new answers never go with old requests.
 fn renew_both<R>(means: &Means<'_, R>, paths: Paths<'_>, ends: &mut Ends) {
     let (host, run) = (means.host, means.run);
     let is_old = match &ends.answers {
@@ -138,8 +139,8 @@ fn renew_both<R>(means: &Means<'_, R>, paths: Paths<'_>, ends: &mut Ends) {
     }
 }
 
-/// Opens the answers again if their FIFO was made again, as that of the requests was before. Requests of a FIFO that was
-/// removed have old answers.
+/// Opens the answers again if their FIFO was made again, unless the path of the requests names another FIFO than the one that is
+/// read. A router may still write to a FIFO of requests that was removed. Then its answers go to the old FIFO of answers.
 fn renew_answers<R>(means: &Means<'_, R>, paths: Paths<'_>, ends: &mut Ends) {
     let host = means.host;
     let is_old = match &ends.answers {
@@ -155,7 +156,8 @@ fn renew_answers<R>(means: &Means<'_, R>, paths: Paths<'_>, ends: &mut Ends) {
 }
 
 /// Answers a router, from the first byte of its requests to their end, and returns how many there were. A fault of the router
-/// is reported, and what it still sends is dropped. Its answers are closed when this returns. Another fault is returned.
+/// is reported, and what it still sends is dropped. Its answers are closed when this returns. A fault of the run itself is
+/// returned.
 fn answer_router<'a, R: Wait, L: LaterDesks>(
     means: &'a Means<'a, R>,
     client: &Client<'_, L>,

@@ -39,7 +39,7 @@ pub struct Run<'a> {
     pub(crate) teller: &'a Teller,
     /// How many feeds and clients have begun and have not ended.
     left: AtomicU64,
-    /// How many of them are clients.
+    /// How many clients have begun and have not ended.
     clients: AtomicU64,
     /// How many feeds have begun, and have neither sent a change nor ended.
     unheard: AtomicU64,
@@ -47,7 +47,7 @@ pub struct Run<'a> {
     pub(crate) voices: Voices,
     /// How far the board is.
     pub(crate) progress: CachePadded<Progress>,
-    /// Whether requests pass: 0 while they are held.
+    /// 0 while requests are held until each feed has sent a change or ended; 1 once requests are answered.
     gate: AtomicU64,
     fault: OnceLock<ServeFault>,
     is_failed: AtomicBool,
@@ -93,24 +93,25 @@ impl<'a> Run<'a> {
         self.end_for(fault, Text::of(fault));
     }
 
-    /// As `fail`, for a stream that could not be opened, read or written. Its path and the reason are printed too.
+    /// Ends the run for a stream that could not be opened, read or written. If this is the first fault, it is printed with the
+    /// stream's path and the reason.
     pub fn fail_at(&self, fault: ServeFault, named: Named<'_>, error: &io::Error) {
         self.end_for(fault, named.after(Text::of(fault)).and(error));
     }
 
-    /// As `fail`, for a path at which there is already something. The path is printed too.
+    /// Ends the run because there is already something at a path. If this is the first fault, it is printed with the path.
     pub fn fail_at_path(&self, fault: ServeFault, path: &str) {
         self.end_for(fault, Text::of(fault).and_shown(path.as_bytes()));
     }
 
-    /// As `fail`, if a thread could not be started. The reason is printed too.
+    /// Ends the run because a thread could not be started. If this is the first fault, it is printed with that reason.
     pub(crate) fn fail_to_start(&self) {
         let fault = ServeFault::NotBegun;
         self.end_for(fault, Text::of(fault).and("a thread could not be started"));
     }
 
-    /// Ends the run for a fault, which is printed as this line if it is the first. A stream that breaks off because the run was
-    /// asked to end is no fault.
+    /// Ends the run for a fault. The given line is printed if the fault is the run's first. A stream that breaks off because
+    /// the run was asked to end is no fault.
     fn end_for(&self, fault: ServeFault, line: Text) {
         if self.is_asked() && fault.is_of_other_end() {
             return;
@@ -200,7 +201,7 @@ impl<'a> Run<'a> {
         self.unheard.load(Ordering::SeqCst) == 0
     }
 
-    /// Whether requests are held.
+    /// Whether requests are held until each feed has sent a change or ended.
     pub(crate) fn is_gate_shut(&self) -> bool {
         self.gate.load(Ordering::SeqCst) == 0
     }

@@ -30,7 +30,7 @@ pub enum ServeFault {
         feed: Feed,
         /// The record's number in its feed, from 1.
         number: u64,
-        /// Its fault.
+        /// Why the record was refused.
         fault: LineFault,
     },
     /// E6: no board was opened, or a thread could not be started.
@@ -80,7 +80,7 @@ impl ServeFault {
         }
     }
 
-    /// Whether the fault is of a stream that has another end, which is one of a feed or a client.
+    /// Whether the fault is one of a feed's or a client's stream, at whose other end is another program.
     pub(crate) fn is_of_other_end(self) -> bool {
         match self {
             ServeFault::NotOpened(stream)

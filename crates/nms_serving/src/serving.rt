@@ -1,4 +1,4 @@
-//! The threads of a run: one for each feed and each client, and the caller's thread, which takes.
+//! The threads of a run: one for each feed and each client, and the caller's thread, which takes the feeds' changes.
 ghost use Rattle.std.specs.Prelude.{◌≡◌, ◌<◌, ◌≤◌, ℕ, [], length, slice_index_or, IfErr};
 ghost use Rattle.std.specs.List.{AllByRecursion};
 ghost use Rattle.nms_quote.specs.Roster.{sizes_of};
@@ -42,7 +42,7 @@ pub struct Means<'a, R> {
 pub(crate) struct Ends {
     /// A sender for each feed, in order.
     senders: Vec<Sender>,
-    /// The other end of the senders' lane.
+    /// The end of the feeds' lane from which changes are taken.
     taker: Taker,
     /// At least one desk for each client.
     desks: Vec<Desk>,
@@ -51,9 +51,10 @@ pub(crate) struct Ends {
 /// The epoch with which a run begins.
 struct FirstEpoch<'a, X: Write, Y: Write> {
     keeper: Keeper<'a, X, Y>,
-    /// Its number.
+    /// The number of the epoch.
     epoch: u64,
-    /// At least one desk for each client, if the clients go over to this epoch. If there are none, the clients begin on it.
+    /// At least one desk for each client, if the clients go over to this epoch. If the list is empty, the clients begin on this
+    /// epoch.
     desks: Vec<Desk>,
 }
 
@@ -64,7 +65,7 @@ pub struct GoingOn<'a> {
     pub board: &'a Boards,
     /// The epoch in which the run goes on: 1 or more.
     pub epoch: u64,
-    /// The text that is reported, up to the number of opening changes.
+    /// The beginning of the line that reports what was left. The number of opening changes is added to it.
     pub report: Text,
 }
 
@@ -130,9 +131,9 @@ pub fn serve<
     serve_board::<Brand, R, X, Y, F, O>(means, doors, files, first, ends)
 }
 
-/// As `serve`, but from the board that an earlier run has left (`left_board`). `files` opens the epoch's files. They begin with
-/// the opening changes of the board, written and published (`Keeper::begin`), which is reported. Each client goes over to the
-/// epoch at its first request, as from an earlier one.
+/// Serves feeds and clients from the board that an earlier run has left (`left_board`), until all have ended or a fault ends
+/// the run. `files` opens the epoch's files. They begin with the opening changes of the board, written and published
+/// (`Keeper::begin`), which is reported. Each client goes over to the epoch at its first request, as from an earlier one.
 ///
 /// `NotBegun` if no board was opened; or the fault of the epoch's files, or of writing its opening changes.
 pub fn resume<
@@ -202,8 +203,8 @@ pub fn resume<
     serve_board::<Brand, R, X, Y, F, O>(means, doors, files, first, ends)
 }
 
-/// Serves feeds and clients on a board that was just opened, from an epoch on. It makes only this call, since the prover's search for
-/// what may go from thread to thread reads all that is around a call.
+/// Serves feeds and clients on a board that was just opened, from an epoch on. Its body is only one call, since the prover's
+/// search for what may go from thread to thread reads all that is around a call.
 fn serve_board<
     B: Sizing + Send + Sync,
     R: Threads + Wait + Sync,
@@ -230,7 +231,8 @@ fn serve_board<
     serve_on::<HouseDesk<B>, R, X, Y, F, O>(means, doors, files, first, ends)
 }
 
-/// As `serve_board`, on desks of any type that the run's roster has.
+/// Serves feeds and clients on a board that was just opened, from an epoch on. Desks may have any type that belongs to the
+/// run's roster.
 fn serve_on<
     H: House + Send,
     R: Threads + Wait + Sync,

@@ -1,7 +1,7 @@
 //! The signals that ask the program to end, as the system shows them to a process that blocks them.
 use std::fs;
 
-/// The bits of INT and TERM in a mask of signals: a signal's number less one.
+/// The bits of the signals INT and TERM in a mask. The place of a signal's bit is the signal's number less one.
 const ENDING: u64 = 0x4002;
 
 /// The signals that ask the program to end. The program was started with them blocked, so they wait until it looks for them.
@@ -12,7 +12,8 @@ pub(crate) struct Signals {
 }
 
 impl Signals {
-    /// The signals of this process. There are none if it blocks none: then the system ends it.
+    /// The signals that ask this process to end, if the process blocks them. If it blocks none, the system itself ends the
+    /// process.
     pub(crate) fn of_process(host: &HostRuntime) -> Self {
         Signals {
             awaited: ENDING & mask_in(host, b"SigBlk:") & !mask_in(host, b"SigIgn:"),

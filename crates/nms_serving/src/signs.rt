@@ -9,9 +9,9 @@ use std::{fs, io};
 /// A file that a run rewrites. It is written by another name first, so that no reader sees only a part of it.
 #[derive(Clone, Copy)]
 pub struct Sign<'a> {
-    /// Its path.
+    /// The path of the file.
     pub path: &'a str,
-    /// The path that is written: the same with `.new`.
+    /// The path under which the file is written first: the file's path with `.new` after it.
     pub new: &'a str,
 }
 

@@ -21,7 +21,7 @@ pub(crate) struct Silence {
 }
 
 impl Silence {
-    /// A silence that begins at this time.
+    /// A silence that begins at the given time, in milliseconds of the clock.
     pub(crate) fn new(since: u64) -> Self
         ensures { result ≡ record { since = since; is_reported = false } }
     {
@@ -55,7 +55,7 @@ impl Silence {
     }
 }
 
-/// Whether a number of milliseconds has passed.
+/// Whether at least the given number of milliseconds passed between two times.
 fn has_passed(since: u64, now: u64, most: u64) -> bool
     ensures { result ≡ nat_le (since + most) now }
 {

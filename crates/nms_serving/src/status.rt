@@ -19,9 +19,9 @@ const SECOND: u64 = 1_000;
 struct Known {
     /// How many records the feed had.
     records: u64,
-    /// When the last one came, in milliseconds of the clock.
+    /// When the feed's last record came, in milliseconds of the clock.
     last: u64,
-    /// How often its writers had left.
+    /// How often the feed's writers had left.
     ends: u64,
 }
 
@@ -32,14 +32,14 @@ pub(crate) struct Status {
     /// When the run was opened, and when its state was last written, in milliseconds of the clock.
     begun: u64,
     written: u64,
-    /// The text, which is made again each time.
+    /// The text of the run's state, which is made again at each writing.
     text: Vec<u8>,
     /// Whether the last writing failed, which was reported.
     has_failed: bool,
 }
 
 impl Status {
-    /// The state of a run that serves from that time on.
+    /// The state of a run that serves from the given time on, in milliseconds of the clock.
     pub(crate) fn new<R>(means: &Means<'_, R>, now: u64) -> Self {
         let none = Known {
             records: 0,
@@ -110,7 +110,7 @@ impl Status {
         self.has_failed = written.is_err();
     }
 
-    /// Makes the text.
+    /// Makes the text of the run's state in memory.
     fn tell<R, H: House>(
         &mut self,
         means: &Means<'_, R>,

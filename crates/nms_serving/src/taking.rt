@@ -19,7 +19,7 @@ pub struct Doors<'a, O> {
     pub feeds: &'a [Door<'a>],
     /// The streams of the clients.
     pub clients: &'a [ClientStreams<'a>],
-    /// What was asked for next to the streams.
+    /// The files that were asked for in addition to the streams.
     pub beside: &'a O,
 }
 
@@ -68,7 +68,8 @@ pub(crate) fn take_all<
     unreachable!()
 }
 
-/// Takes all that was sent before the call, and publishes it. That is what the lane holds, which has as many places as the queue.
+/// Takes all changes that the feeds sent before the call, and publishes them. The lane holds no more of them than the setup's
+/// queue has places.
 fn take_waiting<R: Wait, X: Write + Drop, Y: Write + Drop, F: EpochFiles<X, Y>, H: House>(
     means: &Means<'_, R>,
     next: &NextEpoch<'_, F, H>,
@@ -120,7 +121,7 @@ fn publish<R: Wait, X: Write, Y: Write, H: House>(
     }
 }
 
-/// Notes how far the board is, if all that was taken is published, so once a batch.
+/// Notes the epoch and the version of the board for the other threads, once all changes that were taken are published.
 fn note<R, X: Write, Y: Write, H: House>(means: &Means<'_, R>, epochs: &Epochs<'_, H, X, Y>) {
     if let Some(version) = epochs.version() {
         means

@@ -30,7 +30,7 @@ impl TapeDisk<'_> {
         }
     }
 
-    /// Waits until the disk has a file, if it is one.
+    /// Waits until the disk has the bytes of a file. A FIFO or a device keeps nothing, so this does not wait for it.
     fn sync_file<R>(&self, means: &Means<'_, R>, stream: Stream, epoch: u64, path: &str) {
         let synced = match fs::metadata(means.host, path) {
             Ok(found) if !found.is_file() => Ok(()),

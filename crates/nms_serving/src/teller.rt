@@ -15,8 +15,8 @@ use std::time::Duration;
 
 /// How many reports may wait to be printed; further ones are dropped and counted. This product's own rule.
 const MOST_WAITING: usize = 64;
-/// Room after them for what is never dropped: that the run serves, the ends of 8 feeds and 255 clients, and of the tape. There
-/// is also room for reports that several threads make at once.
+/// Room, after the waiting reports, for lines that are never dropped: that the run serves, the ends of 8 feeds and 255 clients,
+/// and of the tape. There is also room for reports that several threads make at once.
 const MOST_KEPT: usize = 384;
 /// How often the process looks whether all is printed and all threads have ended, and how many milliseconds pass between two
 /// looks. Together they are a second. This product's own rule.
@@ -52,7 +52,7 @@ pub struct Teller {
     is_asked: AtomicBool,
     /// Whether a record of a feed was refused.
     has_refused: AtomicBool,
-    /// Wakes the thread that takes.
+    /// Wakes the thread that takes the feeds' changes.
     taker_bell: Parker,
 }
 

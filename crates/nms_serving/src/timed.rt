@@ -19,8 +19,8 @@ const LINE: usize = 16;
 /// The bytes that are written at once: the lines of a batch.
 const MOST: usize = 64 * LINE;
 
-/// A tape's file, with a file of times next to it if there is one. Before a text goes to the tape, the time of each of its
-/// lines is written there. So a tape never has more changes than times, however the process ends.
+/// A tape's file, and the file of the times of its changes if there is one. Before a text goes to the tape, the time of each of
+/// its lines is written to the file of times. So a tape never has more changes than times, however the process ends.
 #[derive(Drop)]
 pub struct Timed<'a, F> {
     tape: F,

@@ -17,7 +17,7 @@ pub(crate) struct Voice {
     refused: AtomicU64,
     /// Whether the feed's path was opened.
     has_opened: AtomicBool,
-    /// Whether the feed is being read, and how often a writer's end was found there.
+    /// Whether the feed's path is being read, and how often it was found that all its writers had left.
     is_read: AtomicBool,
     ends: AtomicU64,
 }
@@ -90,28 +90,28 @@ impl Voice {
         self.sent.load(Ordering::Acquire)
     }
 
-    /// Notes that the path was opened.
+    /// Notes that the feed's path was opened.
     pub(crate) fn open(&self) {
         self.has_opened.store(true, Ordering::SeqCst);
     }
 
-    /// Whether the path was opened.
+    /// Whether the feed's path was opened.
     pub(crate) fn has_opened(&self) -> bool {
         self.has_opened.load(Ordering::SeqCst)
     }
 
-    /// Notes that the path is read from now on.
+    /// Notes that the feed's path is read from now on.
     pub(crate) fn begin_to_read(&self) {
         self.is_read.store(true, Ordering::SeqCst);
     }
 
-    /// Notes that its writers have left.
+    /// Notes that the feed's writers have left.
     pub(crate) fn end_of_writers(&self) {
         self.ends.fetch_add(1, Ordering::SeqCst);
         self.is_read.store(false, Ordering::SeqCst);
     }
 
-    /// How often its writers had left so far, and whether it is read now.
+    /// How often the feed's writers had left so far, and whether the feed's path is read now.
     pub(crate) fn reading(&self) -> (u64, bool) {
         (
             self.ends.load(Ordering::SeqCst),
@@ -120,7 +120,7 @@ impl Voice {
     }
 }
 
-/// Counts one more, in the only thread that counts.
+/// Adds one to a count that only one thread changes.
 fn count(so_far: &AtomicU64) {
     so_far.store(
         so_far.load(Ordering::Acquire).wrapping_add(1),

@@ -17,8 +17,9 @@ const REST: u64 = 100;
 /// Milliseconds in a second.
 const SECOND: u64 = 1_000;
 
-/// Watches a run until all feeds and clients have ended. Each feed from which no record came for a number of seconds is reported,
-/// once a silence, and when it sends again; one that has ended is not silent. The files of its state are written meanwhile.
+/// Watches a run until all feeds and clients have ended. A feed is reported as silent if no record came from it for a number of
+/// seconds, once for each silence. It is reported again when it sends again. A feed that has ended is not silent. The files of
+/// the run's state are written meanwhile.
 pub(crate) fn watch<H: House, R: Wait>(
     means: &Means<'_, R>,
     signs: Signs<'_>,
@@ -60,13 +61,13 @@ pub(crate) fn watch<H: House, R: Wait>(
 /// What the disk has of the tape, if the run waits for the disk once a second.
 #[derive(Clone, Copy)]
 struct Synced {
-    /// The epoch at the last wait, and when that was, in milliseconds of the clock.
+    /// The epoch at the last wait for the disk, and the time of that wait, in milliseconds of the clock.
     epoch: u64,
     at: u64,
 }
 
 impl Synced {
-    /// The state of a run that begins in this epoch.
+    /// The state of a run that begins in its present epoch, before its first wait for the disk.
     fn new<R>(means: &Means<'_, R>, now: u64) -> Self {
         Synced {
             epoch: means.run.progress.at().0,
@@ -74,7 +75,8 @@ impl Synced {
         }
     }
 
-    /// Waits for the disk if a second has passed, or if it is the last time: for the files of each epoch since the last time.
+    /// Waits for the disk if a second has passed, or at the end of the run. It waits for the files of each epoch since the last
+    /// wait.
     fn look<R>(&mut self, means: &Means<'_, R>, disk: TapeDisk<'_>, now: u64, is_last: bool) {
         if !is_last && now.wrapping_sub(self.at) < SECOND {
             return;
@@ -145,7 +147,7 @@ fn look_at<R: Wait>(
     }
 }
 
-/// Reports a notice.
+/// Reports that a feed is silent, or that it sends again.
 fn report<R: Wait>(means: &Means<'_, R>, feed: Feed, seconds: u32, notice: Notice) {
     let heard = Heard {
         feed,

@@ -11,19 +11,20 @@ pub enum Spot {
     Element,
     /// A key that is allowed in the table. It is absent, or its value has the fault.
     Key(KnownKey),
-    /// The keys that are not allowed in the table, at least one.
+    /// The keys that are not allowed in the table. There is at least one.
     OtherKeys,
-    /// The name, which an earlier element of the array has. The number counts the elements before that one.
+    /// The name, if an earlier element of the array has the same one. The number is the place of the earlier element, counted
+    /// from 0.
     NameOf(usize),
 }
 
 /// A fault of a setup, and its place.
 #[derive(Clone, Copy)]
 pub struct Finding {
-    /// The table.
+    /// The table that has the fault.
     pub table: SetupTable,
-    /// Its part.
+    /// The part of the table that has the fault.
     pub spot: Spot,
-    /// The fault of that place.
+    /// What is wrong there.
     pub fault: SetupFault,
 }

@@ -20,17 +20,17 @@ use toml::Value;
 /// The form that a value must have, with its bounds.
 #[derive(Clone, Copy)]
 pub enum Form {
-    /// A whole number from the first to the second.
+    /// An integer from the first number to the second.
     Number(i64, i64),
     /// The year of caps: 2005 or 2024.
     Year,
-    /// A whole number that is at most the first either way, and not over the second, its cap.
+    /// An integer whose size is at most the first number. It may not exceed the second, which is its cap.
     Charge(u32, u32),
     /// The letter of one of the first n feeds.
     Letter(u8),
-    /// The name of an element of the array.
+    /// The name of an element of the given array.
     Name(SetupArray),
-    /// The elements of the array. There must be at least one, and not too many.
+    /// The elements of the given array. There must be at least one, and not too many.
     Rows(SetupArray),
 }
 
@@ -54,7 +54,7 @@ pub fn form_of(choices: Choices, table: SetupTable, key: KnownKey) -> Form
     }
 }
 
-/// The array to which a table with a name belongs.
+/// The array of a table that has a name: the participants or the symbols.
 fn array_of(table: SetupTable) -> SetupArray
     ensures { result ≡ array_of table }
 {
@@ -102,7 +102,8 @@ fn is_name_of(array: SetupArray, name: &[u8]) -> bool
     }
 }
 
-/// The fault of an array as such, apart from its elements.
+/// The fault of an array by itself: it is no array, is empty, or has too many elements. The faults of its elements do not count
+/// here.
 fn rows_form_fault(value: &Value, array: SetupArray) -> Option<SetupFault>
     ensures { result ≡ rows_form_fault array (view value.now) }
 {

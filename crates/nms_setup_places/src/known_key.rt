@@ -5,9 +5,9 @@ ghost use Rattle.nms_setup_places.specs.Tables.{is_optional, text_of};
 /// A key that is allowed in a table of a setup.
 #[derive(Clone, Copy, PartialEq, Eq)]
 pub enum KnownKey {
-    /// How many changes the tape takes.
+    /// The most changes that the tape takes.
     TapeLimit,
-    /// How many changes wait in the queue.
+    /// The most changes that may wait in the queue.
     Queue,
     /// How many desks there are.
     Desks,
@@ -25,7 +25,7 @@ pub enum KnownKey {
     Feed,
     /// A participant's fee at prices of a dollar or more.
     Fee,
-    /// A participant's fee at lower prices.
+    /// A participant's fee at prices below a dollar.
     Rate,
     /// A symbol's round lot.
     Lot,

@@ -17,8 +17,8 @@ pub fn name_in(row: &Value) -> Option<&str>
     value_at(row.as_table()?, "name")?.as_str()
 }
 
-/// The first of these elements that has the name of the next one, by the number of elements before it. Elements without a name
-/// are skipped. The names of these are known, and then the next one's too, so each name is looked up once.
+/// The first earlier element with the name of the given element, by its place. Elements without a name are skipped. The caller
+/// keeps the names of all earlier elements, and the call adds the new one. So each name is looked up once.
 pub(crate) fn earlier_named<'a>(
     known: &mut IndexMap<&'a str, usize>,
     before: &[Value],

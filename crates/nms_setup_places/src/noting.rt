@@ -34,7 +34,7 @@ pub fn find_faults(alloc: Global, document: &Table) -> Result<Vec<Finding>, Allo
     Ok(found)
 }
 
-/// Notes a fault at a place, if there is one.
+/// Adds a fault and its place to the findings, if there is a fault.
 fn note(
     found: &mut Vec<Finding>,
     table: SetupTable,
@@ -50,7 +50,7 @@ fn note(
     Ok(())
 }
 
-/// Notes the faults of a table's keys.
+/// Adds the faults of a table's keys to the findings: first of the allowed keys, then of any others.
 fn note_table(
     found: &mut Vec<Finding>,
     choices: Choices,
@@ -63,7 +63,7 @@ fn note_table(
     note(found, table, Spot::OtherKeys, others_fault(table, members))
 }
 
-/// Notes the faults of the keys that are allowed in a table.
+/// Adds the faults of the keys that are allowed in a table to the findings.
 fn note_keys(
     found: &mut Vec<Finding>,
     choices: Choices,
@@ -107,7 +107,7 @@ fn others_fault(table: SetupTable, members: &Table) -> Option<SetupFault>
     None
 }
 
-/// Notes the faults of the elements of one of the two arrays.
+/// Adds the faults of all participants or all symbols to the findings.
 fn note_array(
     alloc: Global,
     found: &mut Vec<Finding>,
@@ -149,7 +149,7 @@ fn note_rows(
     Ok(())
 }
 
-/// Notes the faults of one element of an array. The given elements are before it, and their names are known.
+/// Adds the faults of one element of an array to the findings. The call receives the elements before it, and their names.
 fn note_row<'a>(
     found: &mut Vec<Finding>,
     choices: Choices,
@@ -167,7 +167,7 @@ fn note_row<'a>(
     note_again(found, table, known, before, row)
 }
 
-/// Notes the faults of an element by itself.
+/// Adds the faults that an element has by itself to the findings. A repeated name is none of these.
 fn note_element(
     found: &mut Vec<Finding>,
     choices: Choices,
@@ -182,7 +182,7 @@ fn note_element(
     }
 }
 
-/// Notes that an earlier element has the name.
+/// Adds a fault to the findings if an earlier element has the same name.
 fn note_again<'a>(
     found: &mut Vec<Finding>,
     table: SetupTable,

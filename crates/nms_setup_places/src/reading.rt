@@ -24,7 +24,7 @@ pub struct NoToml {
 pub enum Examined {
     /// C1: the text is not TOML.
     NoToml(NoToml),
-    /// A document with its faults; none if it is a setup.
+    /// A TOML document with all its faults. The list is empty if the document is a setup.
     Document(Table, Vec<Finding>),
 }
 

@@ -19,14 +19,14 @@ pub enum SetupArray {
 pub enum SetupTable {
     /// The document itself.
     Top,
-    /// An element of the array `participant`, by the number of elements before it.
+    /// An element of the array `participant`, by its place, counted from 0.
     Participant(usize),
-    /// An element of the array `symbol`, by the number of elements before it.
+    /// An element of the array `symbol`, by its place, counted from 0.
     Symbol(usize),
 }
 
 impl SetupArray {
-    /// The key of the array.
+    /// The key of a document under which the array is found.
     pub fn key(self) -> KnownKey
         ensures { result ≡ array_key self }
     {
@@ -36,7 +36,7 @@ impl SetupArray {
         }
     }
 
-    /// The element of the array after n others.
+    /// The element of the array at a place, counted from 0.
     pub fn element(self, place: usize) -> SetupTable
         ensures { result ≡ row_table self place }
     {
@@ -74,7 +74,7 @@ impl SetupTable {
         }
     }
 
-    /// Whether a text is one of these keys.
+    /// Whether a text is a key that is allowed in the table.
     pub fn has_key(self, key: &str) -> bool
         ensures { result ≡ is_key_of self key.now }
     {

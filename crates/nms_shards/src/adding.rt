@@ -32,8 +32,9 @@ fn add_whole(roster: &mut Roster, lent: &Roster) -> Result<(), RosterFault> {
     Ok(())
 }
 
-/// Adds the symbols of the rows that a reader still has, in the order of the rows: those that are refused or skipped because the
-/// roster lacks their symbol, and as many as it takes. Each has the round lot 100. Returns whether it took all.
+/// Adds the symbols that a roster lacks, from the rows that a reader still has, in the order of the rows. A symbol is added if
+/// its row is refused or skipped because the roster lacks the symbol, while the roster has room. Each added symbol has a round
+/// lot of 100 shares. Returns whether the roster took all of them.
 #[tactic(auto, using(crate::proofs::AddedFacts::grown_none, crate::proofs::AddedFacts::grown_more))]
 pub fn add_symbols<R: Read>(
     alloc: Global,
@@ -58,7 +59,8 @@ pub fn add_symbols<R: Read>(
     Err(ImportFault::TooLong)
 }
 
-/// Adds the symbol of a row, if the roster lacks it, and returns whether it has it then. `name` is room that a caller keeps.
+/// Adds the symbol of a row, if the roster lacks it. Returns false only if the roster has no room for it. `name` is room that a
+/// caller keeps from row to row.
 #[tactic(auto, using(crate::proofs::AddedFacts::grown_none))]
 fn add_of(
     columns: &Columns,
@@ -83,7 +85,7 @@ fn add_of(
     }
 }
 
-/// Adds a symbol, and returns whether there was room.
+/// Adds a symbol with a round lot of 100 shares to a roster, and returns whether there was room.
 #[tactic(auto, using(crate::proofs::AddedFacts::grown_none, crate::proofs::AddedFacts::grown_one))]
 fn add_symbol(roster: &mut Roster, name: &[u8]) -> Result<bool, ImportFault>
     ensures { OnOk result (Grown roster.old roster.new) }

@@ -1,8 +1,8 @@
-//! Which symbols have begun, in any shard.
+//! The symbols whose rows have begun, in this shard or an earlier one.
 use std::alloc::Global;
 use std::collections::HashSet;
 
-/// The symbols that have begun. It is the only thing that grows with a market.
+/// The symbols whose rows have begun in any shard. Only the memory for them grows with a market.
 #[derive(Drop)]
 pub(crate) struct Begun {
     alloc: Global,
@@ -10,7 +10,7 @@ pub(crate) struct Begun {
 }
 
 impl Begun {
-    /// No symbol has begun.
+    /// The set before the first row: no symbol has begun.
     pub(crate) fn new(alloc: Global) -> Begun {
         Begun {
             alloc,
@@ -18,7 +18,7 @@ impl Begun {
         }
     }
 
-    /// How many there are.
+    /// How many symbols have begun.
     pub(crate) fn len(&self) -> u64 {
         self.names.len() as u64
     }

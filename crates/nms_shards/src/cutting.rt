@@ -25,18 +25,18 @@ use std::mem;
 /// A symbol of a shard.
 #[derive(Drop)]
 pub struct Listed {
-    /// Its name.
+    /// The symbol's name.
     pub name: String,
-    /// Its round lot.
+    /// The symbol's round lot.
     pub lot: Lot,
-    /// The version after its first change.
+    /// The version after the symbol's first change in the shard.
     pub first: u64,
-    /// The version after its last change.
+    /// The version after the symbol's last change in the shard.
     pub last: u64,
-    /// If the shard goes on with the symbol: the time of its first change after the cut at the shard's beginning. Its digits
-    /// are HHMMSSnnnnnnnnn.
+    /// If the shard goes on with the symbol: the time of the symbol's first change after the cut at the shard's beginning. The
+    /// digits of the time are HHMMSSnnnnnnnnn.
     pub from: Option<u64>,
-    /// If the next shard goes on with the symbol: the time of its first change there, in the same form.
+    /// If the next shard goes on with the symbol: the time of the symbol's first change there, as digits HHMMSSnnnnnnnnn.
     pub until: Option<u64>,
 }
 
@@ -47,13 +47,13 @@ pub(crate) enum Said {
     More(Entry, Option<Cause>),
     /// The first change of another symbol, with the cause if the row was refused.
     Begins(Entry, Option<Cause>),
-    /// A change of a symbol that has ended.
+    /// A change of a symbol that has ended, so that the row is refused.
     Returned,
-    /// The row makes no change.
+    /// No change, with the cause why there is none.
     Nothing(Cause),
 }
 
-/// The state kept from row to row.
+/// The state that is kept from row to row while a market's rows are cut into shards.
 #[derive(Drop)]
 pub struct Cutting {
     alloc: Global,
@@ -71,7 +71,7 @@ pub struct Cutting {
     cut: Option<u64>,
     /// What each participant shows of the current symbol, as rows of one side have said.
     kept: KeptSides,
-    /// What the participant of the last row shows, once its change is taken.
+    /// What the participant of the last row shows of the symbol, once the row's change is taken.
     sides: Sides,
     scratch: Vec<u8>,
 }
@@ -179,8 +179,8 @@ impl Cutting {
         }
     }
 
-    /// What a row makes that was read as this entry, of the current symbol or the first of another one. A row of one side gives
-    /// the quotation of both.
+    /// What a row makes whose texts were read without a fault. It is a row of the current symbol, or the first of another one.
+    /// A row of one side gives the quotation of both sides.
     fn said_of(
         &mut self,
         columns: &Columns,
@@ -209,7 +209,7 @@ impl Cutting {
         })
     }
 
-    /// What a row of another symbol makes. Its name is in `scratch`.
+    /// What a row of another symbol than the current one makes. The name of its symbol is in `scratch`.
     fn read_other(
         &mut self,
         columns: &Columns,
@@ -220,7 +220,7 @@ impl Cutting {
         ensures stays { self.new ≡ self.old }
     {
         if !is_symbol_name(&self.scratch) {
-            // A row without a symbol makes no change, and a refused one leaves nothing.
+            // A row whose symbol has a wrong form makes no change, and withdraws nothing if it is refused.
             return match entry_with(columns, meanings, &self.bare, row, None) {
                 Ok(_) => Ok(Said::Returned),
                 Err(cause) => Ok(Said::Nothing(cause)),
@@ -289,8 +289,8 @@ impl Cutting {
         self.listed.len() < usize::from(MOST_SYMBOLS) && self.count < self.limit / 2
     }
 
-    /// Notes that the next shard goes on with the current symbol, whose next change has this time. Without a time, the next
-    /// shard begins with another symbol.
+    /// Notes that the next shard goes on with the current symbol, whose next change has the given time. Without a time, the
+    /// next shard begins with another symbol.
     pub(crate) fn split(&mut self, cut: Option<u64>)
         ensures stays { self.new ≡ self.old }
     {
@@ -298,7 +298,7 @@ impl Cutting {
         set_until(&mut self.listed, cut);
     }
 
-    /// Begins the symbol that was read last, which is another one.
+    /// Begins another symbol: the symbol of the row that was read last.
     pub(crate) fn begin_symbol(&mut self, lent: &Roster) -> Result<(), ImportFault>
         requires room { self.old.symbols < MOST_SYMBOLS }
         ensures changes { OnOk result (self.new.changes ≡ self.old.changes) }
@@ -326,7 +326,8 @@ impl Cutting {
         }
     }
 
-    /// Counts a change of the current symbol that the row with a number made.
+    /// Counts a change of the current symbol, and puts it on the symbol's board. `number` is the number of its row among the
+    /// rows of all files, from 1.
     pub(crate) fn count(&mut self, number: u64, entry: &Entry)
         requires room { self.old.changes < self.old.limit }
         ensures changes { self.new.changes ≡ self.old.changes + 1 }
@@ -375,13 +376,14 @@ impl Cutting {
         Ok(Some(opening))
     }
 
-    /// The row that made the last change, and its time.
+    /// The number of the row that made the last change, and the time of that change.
     pub(crate) fn last_change(&self) -> (u64, u64) {
         (self.number, self.time)
     }
 }
 
-/// What gives a change: a row of the current symbol, or the first of another one.
+/// What a row makes that gives a change: the first change of another symbol if `begins` is set, else one more of the current
+/// symbol.
 fn given(begins: bool, entry: Entry, cause: Option<Cause>) -> Said {
     if begins {
         Said::Begins(entry, cause)
@@ -390,7 +392,7 @@ fn given(begins: bool, entry: Entry, cause: Option<Cause>) -> Said {
     }
 }
 
-/// Two rosters without a symbol.
+/// Two rosters with the participants of another one, and no symbol.
 fn bare_rosters(alloc: Global, lent: &Roster) -> Result<(Roster, Roster), ImportFault> {
     let one = bare_roster(alloc, lent)?;
     match bare_roster(alloc, lent) {
@@ -399,7 +401,7 @@ fn bare_rosters(alloc: Global, lent: &Roster) -> Result<(Roster, Roster), Import
     }
 }
 
-/// A roster without a symbol, and its board.
+/// A roster with the participants of another one and no symbol, and the board of that roster.
 fn bare_board(alloc: Global, lent: &Roster) -> Result<(Roster, Boards), ImportFault>
     ensures { IfOk result (λ made. made.1.sizes ≡ sizes_of made.0) }
 {
@@ -420,7 +422,7 @@ fn new_board(alloc: Global, roster: &Roster) -> Result<Boards, ImportFault>
     }
 }
 
-/// A board that shows the same, and has taken only the opening changes.
+/// A board that shows the same as the given one, and has taken only the opening changes.
 fn reopen(alloc: Global, roster: &Roster, board: &Boards) -> Result<Boards, ImportFault>
     requires roster { board.now.sizes ≡ sizes_of roster.now }
     requires listed { 0 < length board.now.sizes.lots }
@@ -432,14 +434,14 @@ fn reopen(alloc: Global, roster: &Roster, board: &Boards) -> Result<Boards, Impo
     }
 }
 
-/// The place of the only symbol of a roster.
+/// The place of the only symbol of a roster, which is the first place.
 fn first_sym() -> Sym
     ensures { result ≡ 0 }
 {
     Sym::new(0).unwrap()
 }
 
-/// The only symbol of a roster, with the versions of its changes, and the time of the first one after a cut.
+/// The only symbol of a roster, with its first and last version in the shard, and the time of its first change after a cut.
 fn listed_symbol(
     alloc: Global,
     own: &Roster,
@@ -463,7 +465,7 @@ fn listed_symbol(
     }
 }
 
-/// Sets the time of the first change of the last symbol in the next shard.
+/// Sets, for the last symbol of the shard, the time of its first change in the next shard.
 fn set_until(listed: &mut Vec<Listed>, until: Option<u64>)
     ensures { length listed.new.items ≡ length listed.old.items }
 {
@@ -472,7 +474,7 @@ fn set_until(listed: &mut Vec<Listed>, until: Option<u64>)
     }
 }
 
-/// Sets the version after the last change of the last symbol.
+/// Sets, for the last symbol of the shard, the version after its last change.
 fn set_last(listed: &mut Vec<Listed>, version: u64)
     ensures { length listed.new.items ≡ length listed.old.items }
 {

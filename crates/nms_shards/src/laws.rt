@@ -11,10 +11,11 @@ ghost use Rattle.nms_shards.specs.ShardExamples.{ExamplesHold};
 
 use nms_opening::alike_boards_show_the_same;
 
-/// For a symbol, a shard shows the rows that the whole day shows, in the same rank order, with the same protection. The premise
-/// is that its tape says the same about the symbol as the day's tape. Its receipts are other numbers.
+/// For a symbol, a shard shows the rows that the complete day shows, in the same rank order, with the same protection. The
+/// premise is that the shard's tape says the same about the symbol as the day's tape. The receipts of a shard are other
+/// numbers.
 ///
-/// `boards` says the same about the boards that the program keeps.
+/// The clause `boards` says this about the boards that the program keeps.
 pub fn a_shard_shows_what_the_whole_shows()
     ensures tapes { (whole shard : Sizes) (day part : Tape) (sym own : ℕ) → IsOfShard whole shard sym own
         → of_symbol sym day ≡ of_symbol own part
@@ -27,8 +28,8 @@ pub fn a_shard_shows_what_the_whole_shows()
     alike_boards_show_the_same();
 }
 
-/// The same holds for a shard that begins with a symbol's opening changes. It goes on with the symbol's changes after the cut,
-/// and shows what the whole day shows after each of them.
+/// A shard may begin with a symbol's opening changes, and go on with the symbol's changes after the cut. After each of them it
+/// shows for the symbol what the complete day shows.
 pub fn a_cut_shows_what_the_whole_shows()
     ensures { (whole shard : Sizes) (before later opened after : Tape) (sym own : ℕ) → IsCut whole shard before opened sym own
         → of_symbol sym later ≡ of_symbol own after

@@ -9,7 +9,8 @@ mod rosters;
 mod setup_text;
 mod sharding;
 
-/// The fewest changes that a setup's tape must take for shards. It is one more than the opening changes of a symbol.
+/// The fewest changes that a setup's tape must take if a market is cut into shards. It is one more than the most opening
+/// changes of a symbol.
 pub const LEAST_LIMIT: u64 = 66;
 
 pub use adding::{add_symbols, roster_of};

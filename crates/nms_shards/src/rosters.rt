@@ -9,7 +9,7 @@ use std::alloc::Global;
 /// The round lot of a symbol that the setup does not list, in shares.
 const USUAL_LOT: u16 = 100;
 
-/// The participants of a roster, and no symbol.
+/// A roster with the participants of another one, and no symbol.
 pub(crate) fn bare_roster(alloc: Global, lent: &Roster) -> Result<Roster, ImportFault> {
     let Ok(mut roster) = Roster::new(alloc) else {
         return Err(ImportFault::NoMemory);
@@ -20,7 +20,7 @@ pub(crate) fn bare_roster(alloc: Global, lent: &Roster) -> Result<Roster, Import
     }
 }
 
-/// As `bare_roster`, but with one symbol.
+/// A roster with the participants of another one, and only the given symbol.
 pub(crate) fn own_roster(alloc: Global, lent: &Roster, name: &[u8]) -> Result<Roster, ImportFault> {
     let Ok(mut roster) = Roster::new(alloc) else {
         return Err(ImportFault::NoMemory);
@@ -31,7 +31,7 @@ pub(crate) fn own_roster(alloc: Global, lent: &Roster, name: &[u8]) -> Result<Ro
     }
 }
 
-/// Adds the participants of a roster, and a symbol with the round lot that it has there.
+/// Adds the participants of another roster, and a symbol. The symbol's round lot is that of the other roster, or 100 shares.
 fn add_all(roster: &mut Roster, lent: &Roster, name: &[u8]) -> Result<(), RosterFault> {
     add_participants(roster, lent)?;
     let _ = roster.add_symbol(name, lot_lent(lent, name))?;

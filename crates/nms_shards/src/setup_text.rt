@@ -13,8 +13,8 @@ use nms_units::{Lot, Price};
 use std::alloc::AllocError;
 
 /// Writes a line for each symbol of the shard: its name, and the versions after its first and its last change. For each cut of
-/// a symbol, one more line follows. It has ` from ` or ` until ` and the time of the first change after the cut after the name.
-/// What is written is safe to show on a terminal.
+/// a symbol, one more line follows. After the name it has ` from ` or ` until `, and the time of the first change after the
+/// cut. What is written is safe to show on a terminal.
 pub fn write_listed(out: &mut SafeText, cutting: &Cutting) -> Result<(), AllocError> {
     let mut time = Vec::new(cutting.alloc());
     for listed in cutting.listed() {
@@ -23,7 +23,7 @@ pub fn write_listed(out: &mut SafeText, cutting: &Cutting) -> Result<(), AllocEr
     Ok(())
 }
 
-/// Writes the lines of a symbol.
+/// Writes the lines of a symbol: one for its versions, and one for each cut.
 fn write_lines(out: &mut SafeText, time: &mut Vec<u8>, listed: &Listed) -> Result<(), AllocError> {
     let none: &[u8] = &[];
     versions_line(out, listed, "", none)?;
@@ -31,7 +31,7 @@ fn write_lines(out: &mut SafeText, time: &mut Vec<u8>, listed: &Listed) -> Resul
     cut_line(out, time, listed, " until ", listed.until)
 }
 
-/// Writes the line of a cut, if there is one.
+/// Writes the line of a cut of a symbol between two shards, if there is such a cut.
 fn cut_line(
     out: &mut SafeText,
     time: &mut Vec<u8>,
@@ -69,7 +69,7 @@ fn versions_line<'x>(
     ])
 }
 
-/// Writes the setup of the shard: the given one with the shard's symbols instead of its own. A comment at its start says how
+/// Writes the setup of the shard: the given one with the shard's symbols. A comment at its start says how
 /// many opening changes the shard begins with. What is written is safe to show on a terminal.
 pub fn write_setup(out: &mut SafeText, setup: &Setup, cutting: &Cutting) -> Result<(), AllocError> {
     number_line(out, "# opening changes: ", cutting.opened())?;
@@ -89,7 +89,7 @@ pub fn write_added(out: &mut SafeText, setup: &Setup, roster: &Roster) -> Result
     Ok(())
 }
 
-/// Writes the keys before the tables.
+/// Writes the keys of a setup that come before its tables.
 fn write_top(out: &mut SafeText, setup: &Setup) -> Result<(), AllocError> {
     let settings = [
         ("tape_limit = ", setup.tape_limit()),
@@ -119,7 +119,7 @@ fn year_of(caps: Caps) -> u64 {
     }
 }
 
-/// Writes a table for each participant, in order of place.
+/// Writes a table for each participant, in the order of the roster.
 fn write_participants(out: &mut SafeText, setup: &Setup) -> Result<(), AllocError> {
     for place in 0..setup.roster().parts() as u8 {
         let part = Part::new(place).unwrap();
@@ -140,8 +140,8 @@ fn write_participant(out: &mut SafeText, setup: &Setup, part: Part) -> Result<()
     amount_line(out, "rate = ", fee_at(setup, part, 1))
 }
 
-/// The fee of a participant for a share at a price in 1/10,000 dollar, in nanodollars. At one dollar it is the key `fee` of its
-/// table, at 1/10,000 dollar the key `rate`.
+/// A participant's fee for a share, in nanodollars, at a price in 1/10,000 dollar. The key `fee` of the participant's table is
+/// the fee at one dollar. The key `rate` is the fee at 1/10,000 dollar.
 fn fee_at(setup: &Setup, part: Part, price: u64) -> i128
     requires there { 0 < price }
     requires low_price { price ≤ 10000 }
@@ -153,7 +153,7 @@ fn fee_at(setup: &Setup, part: Part, price: u64) -> i128
     with_fee - i128::from(price * 100_000)
 }
 
-/// The letter of a feed.
+/// The letter of a feed, `A` to `H`.
 fn letter_of(feed: Feed) -> &'static str {
     match feed {
         Feed::A => "A",
@@ -190,7 +190,7 @@ fn head_line(out: &mut SafeText, head: &str) -> Result<(), AllocError>
     out.line(&[Item::Text(head)])
 }
 
-/// Writes a key with a text in quotes.
+/// Writes a line with a key and its text in quotes.
 fn quoted_line<'x>(out: &mut SafeText, key: &'x str, text: &'x str) -> Result<(), AllocError>
     requires { is_plain key.now ≡ true }
 {
@@ -202,14 +202,14 @@ fn quoted_line<'x>(out: &mut SafeText, key: &'x str, text: &'x str) -> Result<()
     ])
 }
 
-/// Writes a key with a number.
+/// Writes a line with a key and its number.
 fn number_line(out: &mut SafeText, key: &str, number: u64) -> Result<(), AllocError>
     requires { is_plain key.now ≡ true }
 {
     out.line(&[Item::Text(key), Item::Number(number)])
 }
 
-/// Writes a key with a whole number, which may be negative.
+/// Writes a line with a key and its number, which may be negative.
 fn amount_line(out: &mut SafeText, key: &str, amount: i128) -> Result<(), AllocError>
     requires low { negsuc 10000001010000000 ≤ℤ amount }
     requires high { amount ≤ℤ pos 10000000010000000 }

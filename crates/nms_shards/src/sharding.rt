@@ -23,7 +23,7 @@ use std::io::{Read, Write};
 pub enum Shard {
     /// The file has no more rows. The shard goes on with the next file.
     GoesOn,
-    /// The shard is full. The current row waits for the next one.
+    /// The shard is full. The current row waits for the next shard.
     Full,
 }
 
@@ -88,7 +88,7 @@ pub fn import_shard<R: Read, C: Write, T: Write, E: Write>(
     Err(ImportFault::TooLong)
 }
 
-/// Reads the next row, unless one waits. Returns whether there is one.
+/// Reads the next row, unless a row waits from the shard before. Returns whether there is a row.
 fn fetch_row<R: Read>(
     at_hand: bool,
     reader: &mut Reader<RowSource<R>>,
@@ -107,7 +107,8 @@ fn fetch_row<R: Read>(
     next_row(reader, row)
 }
 
-/// Imports the current row, which has this number. Returns whether the shard took it.
+/// Imports the current row. `number` is its number among the rows of all files, counted from 1. Returns whether the shard took
+/// the row.
 fn import_row<C: Write, T: Write, E: Write>(
     columns: &RowColumns,
     meanings: &Meanings,
@@ -170,7 +171,7 @@ fn import_row<C: Write, T: Write, E: Write>(
     }
 }
 
-/// Shows a row that makes no change. A market has no roster of symbols, so only the form of one can be wrong.
+/// Shows a row that makes no change. A market has no roster of symbols, so only the form of a symbol can be wrong.
 fn tell_cause<E: Write>(columns: &Columns, row: &ByteRecord, cause: Cause, told: &mut Told<'_, E>) {
     match cause {
         Cause::UnknownSymbol | Cause::OtherSymbol => told.tell_unformed(columns, row, cause),
@@ -246,7 +247,7 @@ fn count_row<E: Write>(
 }
 
 /// Begins the next shard. If it goes on with a symbol, that symbol's opening changes come first, all at the time of the last
-/// change before the cut. Returns how many there are.
+/// change before the cut. Returns the number of opening changes.
 pub fn begin_shard<C: Write, T: Write>(
     lent: &Roster,
     numbers: bool,
@@ -269,7 +270,7 @@ pub fn begin_shard<C: Write, T: Write>(
     }
 }
 
-/// Writes opening changes, and a line of one time for each.
+/// Writes the opening changes of a shard. For each of them it writes a line with the time of the last change before the cut.
 fn write_opening<C: Write, T: Write>(
     numbers: bool,
     cutting: &Cutting,
@@ -287,7 +288,7 @@ fn write_opening<C: Write, T: Write>(
     give(times, text)
 }
 
-/// Appends the line of a time the given number of times.
+/// Appends the line of one time of day, repeated n times.
 fn append_lines(
     text: &mut Vec<u8>,
     numbers: bool,

@@ -1,4 +1,4 @@
-//! How many columns texts take.
+//! The number of columns that a text takes on a terminal.
 use crate::item::{Item, write_plain};
 use crate::shown::write_shown;
 use std::io;
@@ -9,7 +9,7 @@ use std::io::Write;
 struct Columns(usize);
 
 impl Write for Columns {
-    /// Bytes that continue a character are not counted.
+    /// Counts each character once: in UTF-8, the bytes after its first one are not counted.
     fn write(&mut self, text: &[u8]) -> io::Result<usize> {
         match self.0.checked_add(characters_in(text)) {
             Some(count) => {
@@ -28,7 +28,7 @@ impl Write for Columns {
 /// The number of characters of an item.
 pub(crate) fn columns_of_item(item: &Item<'_>) -> usize {
     let mut count = Columns(0);
-    // The result is dropped, because only a text too long for any memory has more characters than a count.
+    // The result is dropped, because writing can fail only if the count of characters overflows. No text in memory is so long.
     let _ = write_plain(&mut count, item);
     count.0
 }

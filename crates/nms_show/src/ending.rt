@@ -16,7 +16,7 @@ pub enum Ending {
 }
 
 impl Ending {
-    /// The exit status: 0 if done, 4 for a doubt, 6 for a record or a plan's text, 3 for a setup.
+    /// The exit status of the program: 0 if done, 3 for a refused setup, 4 for a doubt, 6 for a refused record or plan.
     pub fn status(self) -> u8
         ensures { result ≡ status_of self }
     {

@@ -16,9 +16,9 @@ use std::io::Write;
 pub enum Item<'a> {
     /// A text of the program, as it is.
     Text(&'a str),
-    /// As `Text`, bold if there are colours.
+    /// A text of the program, as it is. It is bold if there are colours.
     Strong(&'a str),
-    /// As `Text`, red if there are colours.
+    /// A text of the program, as it is. It is red if there are colours.
     Alarm(&'a str),
     /// Bytes of a file, or an argument of the call. Escapes replace what can't be shown.
     Bytes(&'a [u8]),
@@ -37,23 +37,23 @@ pub enum Item<'a> {
 /// One column of a table's row.
 #[derive(Clone, Copy)]
 pub struct Column<'a> {
-    /// The item in it.
+    /// The item that the column shows.
     pub item: Item<'a>,
-    /// The least number of characters.
+    /// The least number of characters that the column takes.
     pub width: usize,
-    /// Whether the item is at the column's right end.
+    /// Whether the item is at the right end of the column.
     pub right: bool,
 }
 
 impl Item<'_> {
-    /// The item of a price. It is kept as a number, so that an item is copied as numbers are.
+    /// Makes an item of a price. The item keeps the price as a number, so that it can be copied.
     pub fn of_price(price: Price) -> Self
         ensures { result ≡ item.Price price }
     {
         Item::Price(price.get())
     }
 
-    /// The item of an amount of money, which is also kept as a number.
+    /// Makes an item of an amount of money. The item keeps the amount as a number, so that it can be copied.
     pub fn of_money(money: Money) -> Self
         ensures { result ≡ item.Money money }
     {

@@ -10,10 +10,10 @@ use crate::show_fault::ShowFault;
 use crate::written::{end_line, write_printable, write_safe};
 use std::io::Write;
 
-/// Writes items and the end of a line. It is not flushed.
+/// Writes items and the end of a line. The writer is not flushed.
 ///
-/// If the program's texts in the items are printable, what is added to the writer is safe to show. At a failure it is a prefix
-/// of such a text.
+/// If the program's texts in the items are printable, the added text is safe to show. After a failure, the first part of the line
+/// was written, and is safe too.
 pub fn write_line<W: Write>(
     answers: &mut W,
     form: Form,
@@ -39,9 +39,9 @@ pub(crate) fn write_items<W: Write>(
     Ok(())
 }
 
-/// Writes a table's row. A space is between two columns, and the end of a line after the last. It is not flushed.
+/// Writes a row of a table, with a space between two columns and the end of a line after the last. The writer is not flushed.
 ///
-/// What is added is safe to show, as for `write_line`.
+/// If the program's texts in the items are printable, the added text is safe to show.
 pub fn write_row<W: Write>(
     answers: &mut W,
     form: Form,
@@ -69,7 +69,7 @@ fn write_columns<W: Write>(
     Ok(())
 }
 
-/// Writes the spaces that are due and a column, and returns the spaces that are due after it.
+/// Writes the spaces that are still owed and then a column. Returns the number of spaces that are owed if another column follows.
 fn write_column<W: Write>(
     answers: &mut W,
     form: Form,
@@ -85,7 +85,7 @@ fn write_column<W: Write>(
     Ok(after)
 }
 
-/// The free columns before an item and after it.
+/// The number of spaces that fill a column before its item, and the number after it.
 fn spare_of(column: &Column<'_>) -> (usize, usize) {
     let taken = columns_of_item(&column.item);
     if taken >= column.width {

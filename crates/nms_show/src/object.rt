@@ -12,7 +12,7 @@ use nms_lines::write_text;
 use std::alloc::{AllocError, Global};
 use std::io::Write;
 
-/// Writes a JSON object. Its keys are in this order, and the end of a line follows. It is not flushed.
+/// Writes a JSON object as one line, with the keys in the given order. The writer is not flushed.
 ///
 /// If the keys and the program's texts in the items are printable, what is added is safe to show. After `NoMemory` nothing was
 /// written.
@@ -50,7 +50,7 @@ fn text_of_object(alloc: Global, members: &[(&str, Item<'_>)]) -> Result<Vec<u8>
     Ok(text)
 }
 
-/// Writes keys with their values, and a comma between two.
+/// Appends the keys of a JSON object with their values, and a comma between two of them.
 fn write_members(
     alloc: Global,
     text: &mut Vec<u8>,
@@ -68,7 +68,7 @@ fn write_members(
     Ok(())
 }
 
-/// Writes a key and its value.
+/// Appends a key of a JSON object and its value.
 fn write_member(
     alloc: Global,
     text: &mut Vec<u8>,
@@ -82,7 +82,7 @@ fn write_member(
     write_value(alloc, text, item)
 }
 
-/// Writes a value.
+/// Appends the value of a key: a text, a number, `true`, `false` or `null`.
 fn write_value(alloc: Global, text: &mut Vec<u8>, item: &Item<'_>) -> Result<(), ShowFault>
     ensures { IsPrintable (own_text item.now) → OnOk result (Adds IsPrintable (Some text.old.items) (Some text.new.items)) }
 {
@@ -99,7 +99,7 @@ fn write_value(alloc: Global, text: &mut Vec<u8>, item: &Item<'_>) -> Result<(),
     }
 }
 
-/// Writes an item between quotation marks, as it is in a line.
+/// Appends an item as a JSON text, with the characters that the item has in a line for people.
 fn write_as_string(alloc: Global, text: &mut Vec<u8>, item: &Item<'_>) -> Result<(), ShowFault>
     ensures { IsPrintable (own_text item.now) → OnOk result (Adds IsPrintable (Some text.old.items) (Some text.new.items)) }
 {
@@ -130,7 +130,7 @@ fn push_string(text: &mut Vec<u8>, own: &[u8]) -> Result<(), AllocError>
     text.extend_from_slice(b"\"")
 }
 
-/// Appends a byte in its form between quotation marks.
+/// Appends a byte as it is in a JSON text: with a backslash, as `\u00` and two digits, or as it is.
 fn push_byte(text: &mut Vec<u8>, byte: u8) -> Result<(), AllocError>
     ensures { OnOk result (text.new.items ≡ text.old.items ++ json.json_byte byte) }
 {

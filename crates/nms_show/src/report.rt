@@ -38,8 +38,8 @@ pub struct WrongPart<'a> {
     pub end: usize,
 }
 
-/// Writes a line as `write_line` does. The program's texts in its items are printable ASCII. What is added is safe to show. A
-/// fault is one of `write_line`.
+/// Writes a line whose words from the program are printable ASCII, so the added text is safe to show. After a fault, the first
+/// part of the line may have been written.
 #[tactic(auto, using(crate::proofs::PlainFacts::plain_items))]
 pub fn write_plain_line<W: Write>(
     answers: &mut W,
@@ -52,7 +52,7 @@ pub fn write_plain_line<W: Write>(
     write_line(answers, form, items)
 }
 
-/// Writes a table's row as `write_row` does. The program's texts in its items are printable ASCII. What is added is safe to show.
+/// Writes a row of a table. Its words from the program are printable ASCII, so the added text is safe to show.
 #[tactic(auto, using(crate::proofs::PlainFacts::plain_columns))]
 pub(crate) fn write_plain_row<W: Write>(
     answers: &mut W,
@@ -65,8 +65,8 @@ pub(crate) fn write_plain_row<W: Write>(
     write_row(answers, form, columns)
 }
 
-/// Writes a JSON object as `write_object` does. Its keys and the program's texts are printable ASCII. What is added is safe to
-/// show. A fault is one of `write_object`.
+/// Writes a JSON object as one line. Its keys and the program's words are printable ASCII, so the added text is safe to
+/// show. It fails if memory runs out or the writer fails.
 pub fn write_plain_object<W: Write>(
     alloc: Global,
     answers: &mut W,
@@ -78,7 +78,7 @@ pub fn write_plain_object<W: Write>(
     write_object(alloc, answers, members)
 }
 
-/// Writes the line of a refusal's place: file, line, column and code, and then the items. It is not flushed.
+/// Writes a line with the place of a refusal: file, line, column and code, and then the given items. The writer is not flushed.
 ///
 /// What is added is safe to show. After `WriteFault` a prefix of the line was written.
 pub(crate) fn write_place<W: Write>(
@@ -96,8 +96,8 @@ pub(crate) fn write_place<W: Write>(
     write_plain_line(answers, form, items)
 }
 
-/// Writes the line of a refusal's place, as `write_place` does, and its text with carets under the part that is wrong. It is
-/// not flushed.
+/// Writes a line with the place of a refusal, then the refused text, and carets under the part that is wrong. The writer is not
+/// flushed.
 ///
 /// What is added is safe to show. After `WriteFault` a prefix of the lines was written.
 pub fn write_refused<W: Write>(
@@ -138,7 +138,7 @@ fn write_location<W: Write>(
     write_plain_items(answers, form, &items)
 }
 
-/// Writes items, as `write_items` does. The program's texts in them are printable ASCII.
+/// Writes items one after the other. The program's words in them are printable ASCII.
 #[tactic(auto, using(crate::proofs::PlainFacts::plain_items))]
 fn write_plain_items<W: Write>(
     answers: &mut W,
@@ -151,7 +151,8 @@ fn write_plain_items<W: Write>(
     write_items(answers, form, items)
 }
 
-/// Writes what was found, between the two words that belong to it, and then what is expected. It is not flushed.
+/// Writes a line that says what was found and what is expected. The found item is between two given words. The writer is not
+/// flushed.
 ///
 /// What is added is safe to show. After `WriteFault` a prefix of the line was written.
 pub fn write_found<'x, W: Write>(
@@ -176,7 +177,8 @@ pub fn write_found<'x, W: Write>(
     write_plain_line(answers, form, &items)
 }
 
-/// The words before and after what is at a key, which `write_found` takes. The value may be absent.
+/// The words around a found value in a line that says what is expected. If no value was found, the line has only the expected
+/// value.
 pub fn words_round(found: Item<'_>) -> (&'static str, &'static str)
     ensures before { is_plain result.0.now ≡ true }
     ensures after { is_plain result.1.now ≡ true }
@@ -188,7 +190,7 @@ pub fn words_round(found: Item<'_>) -> (&'static str, &'static str)
     }
 }
 
-/// Writes a line of advice; nothing if there is none. It is not flushed.
+/// Writes a line of advice, or nothing if there is no advice. The writer is not flushed.
 ///
 /// What is added is safe to show, even if the advice quotes a file. After `WriteFault` a prefix of the line was written.
 #[tactic(auto, using(crate::proofs::PlainFacts::nothing_added))]

@@ -19,10 +19,11 @@ use std::alloc::{AllocError, Global};
 use std::io::Write;
 use std::marker::Model;
 
-/// A text that is safe to show on a terminal. Nothing else can be added to it, so what a function prints on it needs no clause.
+/// A text that is safe to show on a terminal. Nothing unsafe can be added to it, so a function that adds to it needs no proof of
+/// safety.
 ///
-/// It is not printed before `pass_on`. Each addition is complete or absent: the only fault is out of memory, and it leaves the
-/// text as it was.
+/// The text is printed only when it is passed on to a writer. Each addition is complete or absent. The only fault is a lack of
+/// memory, which leaves the text as it was.
 #[derive(Drop)]
 pub struct SafeText {
     alloc: Global,
@@ -94,7 +95,7 @@ impl SafeText {
         kept(&mut self.text, had, written)
     }
 
-    /// Adds the line of a refusal's place, as `write_place` does.
+    /// Adds a line with the place of a refusal: file, line, column and code, and then the given items.
     pub fn place(
         &mut self,
         at: Location<'_>,
@@ -110,7 +111,7 @@ impl SafeText {
         kept(&mut self.text, had, written)
     }
 
-    /// Adds the line of a refusal's place, and its text with carets under the part that is wrong, as `write_refused` does.
+    /// Adds a line with the place of a refusal, then the refused text, and carets under the part that is wrong.
     pub fn refused(
         &mut self,
         at: Location<'_>,
@@ -127,7 +128,7 @@ impl SafeText {
         kept(&mut self.text, had, written)
     }
 
-    /// Adds what was found and what is expected, as `write_found` does.
+    /// Adds a line that says what was found and what is expected. The found item is between two given words.
     pub fn found<'x>(
         &mut self,
         words: (&'static str, &'static str),
@@ -153,7 +154,7 @@ impl SafeText {
         kept(&mut self.text, had, written)
     }
 
-    /// Gives the text to a writer, and begins again with an empty one. It is not flushed.
+    /// Gives the text to a writer, which is not flushed. After that the text is empty.
     ///
     /// The only fault is `WriteFault`, after which a prefix of the text was written.
     #[tactic(auto, using(crate::proofs::PlainFacts::safe_none))]
@@ -172,7 +173,7 @@ impl SafeText {
     }
 }
 
-/// Takes back what a failed call added. A write to memory fails only if out of memory.
+/// Removes a failed addition from the text. Writing to memory fails only if memory runs out.
 #[tactic(auto, using(crate::proofs::PlainFacts::safe_more, crate::proofs::PlainFacts::cut_back))]
 fn kept(text: &mut Vec<u8>, had: usize, written: Result<(), ShowFault>) -> Result<(), AllocError>
     ensures kept { (was : List ℕ) → had ≡ length was → Writes IsSafe (Some was) (Some text.old.items) written

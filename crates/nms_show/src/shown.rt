@@ -14,10 +14,9 @@ use std::str;
 /// The most bytes of a text that are shown.
 const MOST_SHOWN: usize = 400;
 
-/// Writes bytes as they are shown: printable ASCII and the letters of European alphabets as they are. Any other character is
-/// shown as `
-/// `, `\r`, `\t`, `\x1b` or `\u{202e}`, a byte that is not UTF-8 as `\xff`, a backslash as two. After 400 bytes the number of
-/// further bytes follows. It is not flushed.
+/// Writes bytes as they are shown: printable ASCII and the letters of European alphabets as they are. Other characters are shown
+/// as `\n`, `\r`, `\t`, `\x1b` or `\u{202e}`. A byte that is not UTF-8 is shown as `\xff`, and a backslash as two. After 400
+/// bytes the number of further bytes follows. The writer is not flushed.
 ///
 /// What is added is safe to show. After `WriteFault` a prefix of it was written.
 pub fn write_shown<W: Write>(answers: &mut W, bytes: &[u8]) -> Result<(), ShowFault>
@@ -30,7 +29,7 @@ pub fn write_shown<W: Write>(answers: &mut W, bytes: &[u8]) -> Result<(), ShowFa
     write_left_out(answers, bytes.len() - MOST_SHOWN)
 }
 
-/// Writes the number of further bytes.
+/// Writes how many further bytes of a cut text are not shown.
 fn write_left_out<W: Write>(answers: &mut W, more: usize) -> Result<(), ShowFault>
     ensures { Writes IsPrintable (W.contents answers.old) (W.contents answers.new) result }
 {
@@ -39,7 +38,7 @@ fn write_left_out<W: Write>(answers: &mut W, more: usize) -> Result<(), ShowFaul
     write_printable(answers, b" bytes more)")
 }
 
-/// Writes all bytes as they are shown.
+/// Writes all bytes with escapes, without a limit of their number.
 fn write_pieces<W: Write>(answers: &mut W, bytes: &[u8]) -> Result<(), ShowFault>
     ensures { Writes IsPrintable (W.contents answers.old) (W.contents answers.new) result }
 {
@@ -50,8 +49,8 @@ fn write_pieces<W: Write>(answers: &mut W, bytes: &[u8]) -> Result<(), ShowFault
     Ok(())
 }
 
-/// Writes the printable ASCII at the start of bytes, or the escape of the one character or byte there. Returns how many bytes
-/// it took.
+/// Writes the printable ASCII at the start of bytes, or the escape of the first character or byte. Returns the number of bytes
+/// that it has shown.
 fn write_piece<W: Write>(answers: &mut W, bytes: &[u8]) -> Result<usize, ShowFault>
     requires { 0 < length bytes.now }
     ensures shown { Writes IsPrintable (W.contents answers.old) (W.contents answers.new) result }
@@ -85,7 +84,7 @@ fn is_plain(byte: u8) -> bool
     byte >= b' ' && byte <= b'~' && byte != b'\\'
 }
 
-/// Writes the form of the character or the byte at the start of bytes. Returns how many bytes it took.
+/// Writes the escape or the letter for the first character or byte. Returns the number of bytes that it has shown.
 fn write_escape<W: Write>(answers: &mut W, bytes: &[u8]) -> Result<usize, ShowFault>
     requires { 0 < length bytes.now }
     ensures shown { Writes IsPrintable (W.contents answers.old) (W.contents answers.new) result }
@@ -152,7 +151,7 @@ fn is_letter(letter: char) -> bool
     matches!(letter, '\u{a1}'..='\u{ac}' | '\u{ae}'..='\u{2ff}' | '\u{391}'..='\u{3ce}' | '\u{400}'..='\u{481}')
 }
 
-/// Writes the code of a character, as that of a byte if it is ASCII.
+/// Writes the code of a character as an escape, such as `\x1b` if it is ASCII, and else such as `\u{202e}`.
 fn write_code<W: Write>(answers: &mut W, code: u32) -> Result<(), ShowFault>
     ensures { Writes IsPrintable (W.contents answers.old) (W.contents answers.new) result }
 {

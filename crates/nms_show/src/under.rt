@@ -11,17 +11,17 @@ use crate::shown::write_shown;
 use crate::written::{end_line, write_printable};
 use std::io::Write;
 
-/// The number of bytes that are shown before a field, and from its start on.
+/// The bytes of a long record that are shown: at most 48 before the wrong field, and 72 from the field's start on.
 const BEFORE: usize = 48;
 
 const FROM: usize = 72;
-/// The text before the record.
+/// The indent of a shown record.
 const INDENT: &[u8] = b"    ";
-/// The mark of bytes that are left out.
+/// The mark in place of bytes that are not shown.
 const LEFT_OUT: &str = "..";
 
-/// Writes a record with carets under it. They are under its bytes from `start` to `end`, and there is one caret if these are
-/// none. Only the part around the field is shown of a long record. It is not flushed.
+/// Writes a record, and a line of carets under its bytes from `start` to `end`. An empty field gets one caret. If the record is
+/// long, only the part around the field is shown. The writer is not flushed.
 pub fn write_under<W: Write>(
     answers: &mut W,
     form: Form,
@@ -49,7 +49,7 @@ pub fn write_under<W: Write>(
     write_carets(answers, form, ahead, near, field)
 }
 
-/// The last bytes before a field.
+/// The last 48 bytes before a field, or all if there are fewer.
 fn last_of(before: &[u8]) -> &[u8] {
     if before.len() <= BEFORE {
         return before;
@@ -65,7 +65,7 @@ fn first_of(bytes: &[u8], most: usize) -> &[u8] {
     &bytes[..most]
 }
 
-/// Writes a record's line.
+/// Writes the line that shows the record.
 fn write_record<W: Write>(
     answers: &mut W,
     ahead: &str,
@@ -81,7 +81,7 @@ fn write_record<W: Write>(
     end_line(answers)
 }
 
-/// Writes a record, without the end of its line.
+/// Writes the line that shows the record, without its line end.
 fn write_body<W: Write>(
     answers: &mut W,
     ahead: &str,
@@ -112,7 +112,7 @@ fn write_parts<W: Write>(
     write_rest(answers, shown, after)
 }
 
-/// Writes the part before the field.
+/// Writes the indent, and the shown part of the record before the field.
 fn write_lead<W: Write>(answers: &mut W, ahead: &str, near: &[u8]) -> Result<(), ShowFault>
     requires ahead { IsPrintable ahead.now }
     ensures { Writes IsPrintable (W.contents answers.old) (W.contents answers.new) result }
@@ -122,7 +122,7 @@ fn write_lead<W: Write>(answers: &mut W, ahead: &str, near: &[u8]) -> Result<(),
     write_shown(answers, near)
 }
 
-/// Writes the field and the part after it.
+/// Writes the field and the shown part of the record after it, with a mark if the record continues.
 fn write_rest<W: Write>(answers: &mut W, shown: &[u8], after: &str) -> Result<(), ShowFault>
     requires after { IsPrintable after.now }
     ensures { Writes IsPrintable (W.contents answers.old) (W.contents answers.new) result }
@@ -131,7 +131,7 @@ fn write_rest<W: Write>(answers: &mut W, shown: &[u8], after: &str) -> Result<()
     write_own(answers, after)
 }
 
-/// Writes the line of carets.
+/// Writes the line of carets under the field. There is at least one caret.
 fn write_carets<W: Write>(
     answers: &mut W,
     form: Form,

@@ -1,4 +1,4 @@
-//! Giving texts to a writer, and the results: `specs/Written`.
+//! Giving texts to a writer, and what the writer holds afterwards: `specs/Written`.
 ghost use Rattle.std.specs.Prelude.{◌≡◌, ℕ, List, Some};
 ghost use Rattle.nms_show.specs.Safe.{IsPrintable, IsSafe};
 ghost use Rattle.nms_show.specs.Written.{Writes};

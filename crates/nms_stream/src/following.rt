@@ -23,7 +23,7 @@ pub(crate) struct Follower {
     pub(crate) shown: Vec<Quoted>,
 }
 
-/// A follower before the first change.
+/// A board before the first change of a tape, with what it shows for each symbol.
 pub(crate) fn open(alloc: Global, roster: &Roster) -> Result<Follower, BoardFault>
     ensures of { IfOk result (IsOf (sizes_of roster.now)) }
     ensures first { IfOk result (λ follower. Follows (sizes_of roster.now) None follower []) }
@@ -51,8 +51,8 @@ fn shown_on(alloc: Global, roster: &Roster, board: &Boards) -> Result<Vec<Quoted
     Ok(shown)
 }
 
-/// Moves on by one change, and appends the lines of the symbols that are asked for. Symbols that the change does not concern
-/// are not looked at.
+/// Moves the board on by one change, and appends the lines of the symbols that are asked for. Symbols that the change does not
+/// concern are not looked at.
 pub(crate) fn follow(
     follower: &mut Follower,
     roster: &Roster,
@@ -75,7 +75,8 @@ pub(crate) fn follow(
     }
 }
 
-/// As `follow`, for one symbol.
+/// Moves the board on by one change. It appends the line of one symbol if its best bid or best offer does not look as last
+/// shown.
 fn follow_one(
     follower: &mut Follower,
     roster: &Roster,
@@ -102,7 +103,8 @@ fn follow_one(
     show(follower, roster, sym, out)
 }
 
-/// As `follow`, for all symbols.
+/// Moves the board on by one change. It appends a line for each symbol whose best bid or best offer does not look as last
+/// shown.
 fn follow_all(
     follower: &mut Follower,
     roster: &Roster,
@@ -161,7 +163,8 @@ fn show(
     tell_line(out, roster, follower.board.applied(), sym, &quoted)
 }
 
-/// Appends the lines of all symbols, as `show` does.
+/// Appends a line for each symbol whose best bid or best offer does not look as last shown. Then the best rows are kept as
+/// shown.
 fn show_each(follower: &mut Follower, roster: &Roster, out: &mut Vec<u8>) -> Result<(), AllocError>
     requires of { IsOf (sizes_of roster.now) follower.old }
     ensures board { follower.new.board ≡ follower.old.board }

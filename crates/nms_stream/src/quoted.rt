@@ -13,7 +13,7 @@ use nms_quote::{Side, Sym};
 pub struct Quoted {
     /// The best bid, with its price in 1/10,000 dollar and its displayed size in shares.
     pub bid: Option<Row>,
-    /// The best offer, as the bid.
+    /// The best offer, with its price in 1/10,000 dollar and its displayed size in shares.
     pub offer: Option<Row>,
 }
 
@@ -33,8 +33,8 @@ pub fn quoted_on(board: &Boards, sym: Sym) -> Quoted
 impl Quoted {
     ghost use Rattle.nms_stream.specs.Quoted.{are_alike};
 
-    /// Whether it looks like another one. Then each side has the same participant, price and displayed size, or nothing.
-    /// Receipts, and whether a quotation is automated, do not matter.
+    /// Whether these best quotations look like others: each side has the same participant, price and displayed size, or
+    /// nothing. Receipts, and whether a quotation is automated, do not matter.
     pub fn is_like(&self, other: &Quoted) -> bool
         ensures { result ≡ are_alike self.now other.now }
     {
@@ -42,7 +42,7 @@ impl Quoted {
     }
 }
 
-/// Whether two best rows look alike.
+/// Whether two best rows have the same participant, price and displayed size, or both are absent.
 fn is_alike(row: &Option<Row>, other: &Option<Row>) -> bool
     ensures { result ≡ is_alike row.now other.now }
 {

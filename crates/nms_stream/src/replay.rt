@@ -13,9 +13,9 @@ use std::alloc::Global;
 /// A board at a version of a tape.
 #[derive(Drop)]
 pub struct Replay<'a> {
-    /// The tape.
+    /// The tape along which the board moves.
     pub tape: &'a Tape<'a>,
-    /// The board.
+    /// The board, to which the first changes of the tape have been applied.
     pub board: Boards,
     pub ghost at: { IsAt (sizes_in tape.now) tape.now.changes.items board },
 }

@@ -21,7 +21,7 @@ use nms_text::tell;
 use std::alloc::Global;
 use std::io::{Read, Write};
 
-/// How many bytes wait before they are written.
+/// The number of bytes of lines that are collected before they are written.
 const PIECE: usize = 65_536;
 
 /// Streams the changes of a file. After a header there is a line if and only if a wanted symbol's best bid, best offer or
@@ -49,7 +49,7 @@ pub fn stream_file<R: Read + Drop, W: Write>(
     }
 }
 
-/// Streams a tape, as `stream_file` streams the changes of a file.
+/// Streams a tape: a header, and a line if and only if a wanted symbol's best bid, best offer or market changes.
 pub fn stream<W: Write>(
     alloc: Global,
     tape: &Tape<'_>,
@@ -94,7 +94,8 @@ fn stream_along<W: Write>(
     send(out, writer)
 }
 
-/// Moves on by one change, and writes what waits once there is enough of it.
+/// Moves the board on by one change and collects its lines. The collected lines are written once they have at least 65,536
+/// bytes.
 fn advance<W: Write>(
     follower: &mut Follower,
     roster: &Roster,
@@ -126,7 +127,7 @@ fn advance<W: Write>(
     send(out, writer)
 }
 
-/// Writes what waits.
+/// Writes the collected lines, and empties their buffer.
 fn send<W: Write>(out: &mut Vec<u8>, writer: &mut W) -> Result<(), StreamFault>
     ensures sent { OnOk result (Appends (W.contents writer.old) (W.contents writer.new) out.old.items) }
     ensures empty { OnOk result (out.new.items ≡ []) }

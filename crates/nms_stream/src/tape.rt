@@ -14,9 +14,9 @@ use std::io::Read;
 /// require that.
 #[derive(Drop)]
 pub struct Tape<'a> {
-    /// The setup.
+    /// The setup under which the changes were read.
     pub setup: &'a Setup,
-    /// Its roster.
+    /// The roster of the setup, which lists its participants and symbols.
     pub roster: &'a Roster,
     /// The changes, from first to last.
     pub changes: Vec<Change>,
@@ -26,7 +26,7 @@ pub struct Tape<'a> {
 }
 
 impl<'a> Tape<'a> {
-    /// Reads all changes of a file, by `read_changes` of `nms_files`.
+    /// Reads all changes of a file as a tape under this setup. A fault says why the file is no tape.
     pub fn read<R: Read + Drop>(
         alloc: Global,
         setup: &'a Setup,

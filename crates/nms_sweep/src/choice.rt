@@ -10,13 +10,13 @@ use nms_units::Money;
 pub(crate) struct Choice {
     /// The rank of its price.
     pub(crate) cutoff: Rank,
-    /// The cost of the last share there, in nanodollars.
+    /// The cost of the last share that a plan takes at the cutoff, in nanodollars.
     pub(crate) marginal: Money,
-    /// The cost of all shares, in nanodollars.
+    /// The cost of all shares of such a plan, in nanodollars.
     pub(crate) cost: Money,
 }
 
-/// The cutoff of less cost; the first one if they cost the same.
+/// Of two cutoffs, the one at which the order costs less; the first one if they cost the same.
 pub(crate) fn cheaper(best: Option<Choice>, other: Option<Choice>) -> Option<Choice>
     ensures { result ≡ cheaper best other }
 {

@@ -17,9 +17,9 @@ use nms_quote::{Cut, CutKind, OrderSide};
 use nms_rules::Rank;
 use nms_units::MOST_SHARES;
 
-/// Puts a cut for each cutoff behind the rows that were passed into room without cuts, if n shares can be filled. It returns the
-/// cutoff of least cost, of equals the best price; `None` if no cutoff can be filled at. Those in the order of their costs need
-/// not have the rows at prices where more must be swept than can be filled.
+/// Puts a cut for each cutoff after the passed rows into room without cuts, if n shares can be filled. Returns the cutoff of
+/// least cost, and among equals the one at the best price. `None` if no cutoff can be filled at. The list in the order of costs
+/// may leave out rows at prices where more must be swept than can be filled.
 pub(crate) fn put_cuts<W: PlanRoom>(
     side: OrderSide,
     by_cost: &ByCost,
@@ -59,7 +59,7 @@ pub(crate) fn put_cuts<W: PlanRoom>(
     }
 }
 
-/// What the cut at a cutoff says, and what the cutoff offers, if n shares can be filled.
+/// What the cut at a cutoff claims, and the marginal and the cost of filling n shares there, if that is possible.
 fn tried(side: OrderSide, by_cost: &ByCost, most: u64, cutoff: &Cutoff) -> (CutKind, Option<Choice>)
     requires rows { length by_cost.now ≤ MOST_ROWS }
     requires most { most ≤ MOST_SHARES }

@@ -37,7 +37,7 @@ pub(crate) fn put_legs<W: PlanRoom>(
     }
 }
 
-/// As `put_legs`, but at a cutoff, with n shares left at the marginal.
+/// Puts the legs at a cutoff into room, if n shares are left to take from the rows that cost exactly the marginal.
 #[tactic(auto, unfolding(crate::specs::Choice::legs_of))]
 fn put_legs_at<W: PlanRoom>(
     cutoff: Rank,
@@ -66,7 +66,7 @@ fn put_legs_at<W: PlanRoom>(
     }
 }
 
-/// The leg that goes to a row.
+/// The leg that sends shares to the participant of a row.
 fn leg(row: &PricedRow, shares: u64) -> Leg
     requires { shares ≤ MOST_SHARES }
     ensures { result ≡ record { part = row.now.part; price = row.now.price; shares = shares } }
@@ -114,7 +114,7 @@ fn taken_before(rows: &[PricedRow], cutoff: Rank, marginal: Money) -> (u64, &[Pr
     (sum, rows)
 }
 
-/// How many of a row's shares must be swept.
+/// How many of a row's shares must be swept before the order may trade at a price of the given rank.
 fn swept_part(row: &PricedRow, cutoff: Rank) -> u64
     ensures part { result ≡ swept_part cutoff row.now }
     ensures within { result ≤ MOST_SIZE }

@@ -20,7 +20,7 @@ pub(crate) struct Made {
 }
 
 impl Made {
-    /// A plan for an order that fills nothing, without cuts.
+    /// A plan that fills nothing for an order, with a certificate that has no cuts.
     pub(crate) fn of(order: &Order) -> Self
         ensures filled { result.plan.filled ≡ 0 }
         ensures legs { result.plan.legs.items ≡ [] }
@@ -38,7 +38,8 @@ impl Made {
         }
     }
 
-    /// Plans an order on the cutoffs of a version, all of them still to come, in place of what is there.
+    /// Makes the plan of an order, and its certificate, from the order's cutoffs at a version, none of which was given yet.
+    /// They replace the plan and the certificate that were there.
     pub(crate) fn set(&mut self, version: u64, order: &Order, cutoffs: &Cutoffs)
         requires few { length cutoffs.now.to_come ≤ MOST_ROWS }
         requires table { (seen : Seen) × (fees : Charges) × IsTable seen order.now fees version cutoffs.now }

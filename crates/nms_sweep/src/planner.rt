@@ -24,7 +24,8 @@ pub struct Planner {
     made: Made,
 }
 
-/// It has its own `Drop`, so that a function that holds one has one call at each exit, and not one for each part (docs/GATE.md).
+/// This type has its own `Drop`. So a function that holds such a value has one call at each exit, and not one for each part
+/// (docs/GATE.md).
 impl Drop for Planner {
     fn drop(self) {
         let Planner {
@@ -63,7 +64,7 @@ impl Planner {
         }
     }
 
-    /// As `plan`, but on what a look at a board shows for the order's symbol. The plan and its certificate replace the ones
+    /// Plans an order on what a look at a board shows for the order's symbol. The plan and its certificate replace the ones
     /// before. The rows are read off the board, without making a view. Takes no memory.
     pub fn plan_on(&mut self, board: &Boards, order: &Order, fees: &FeeBook)
         requires { order.now.sym < length board.now.sizes.lots }
@@ -81,7 +82,7 @@ impl Planner {
         self.made.set(version, order, &self.cutoffs);
     }
 
-    /// As `plan_on`, but on a view.
+    /// Plans an order on a view. The plan and its certificate replace the ones before.
     pub fn plan_view(&mut self, view: &View, order: &Order, fees: &FeeBook)
         requires { order.now.sym ≡ view.now.sym }
         ensures planned { IsPlanned view.now order.now fees.now self.new.plan self.new.cuts }

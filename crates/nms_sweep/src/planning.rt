@@ -51,7 +51,8 @@ pub fn plan(view: &View, order: &Order, fees: &FeeBook) -> (Plan, Certificate)
     (plan, cuts)
 }
 
-/// As `plan`, but writes the legs and the cuts into room of the caller, whatever it holds, and returns the rest of the plan.
+/// Plans an intermarket sweep order on a view, as `plan` does. It writes the legs and the cuts into room of the caller,
+/// whatever it holds, and returns the rest of the plan.
 pub fn plan_into<W: PlanRoom>(view: &View, order: &Order, fees: &FeeBook, out: &mut W) -> Outcome
     requires { order.now.sym ≡ view.now.sym }
     ensures filled { W.IsFilled out.new }
@@ -62,8 +63,8 @@ pub fn plan_into<W: PlanRoom>(view: &View, order: &Order, fees: &FeeBook, out: &
     fill(version, order, &cutoffs, out)
 }
 
-/// As `plan_into`, but on what a look at a board shows of the order's symbol. The rows are read off the board, with no view
-/// made. Takes no memory.
+/// Plans an intermarket sweep order on what a look at a board shows of the order's symbol. It writes the legs and the cuts into
+/// room of the caller. The rows are read off the board, with no view made. Takes no memory.
 pub fn plan_on<W: PlanRoom>(board: &Boards, order: &Order, fees: &FeeBook, out: &mut W) -> Outcome
     requires { order.now.sym < length board.now.sizes.lots }
     ensures filled { W.IsFilled out.new }
@@ -77,7 +78,8 @@ pub fn plan_on<W: PlanRoom>(board: &Boards, order: &Order, fees: &FeeBook, out: 
     fill(version, order, &cutoffs, out)
 }
 
-/// Plans an order on the cutoffs of a version, all of them still to come.
+/// Plans an order from its cutoffs at a version, none of which was given yet. It writes the legs and the cuts into room of the
+/// caller.
 pub(crate) fn fill<W: PlanRoom>(
     version: u64,
     order: &Order,

@@ -19,7 +19,7 @@ pub(crate) struct PricedRow {
     pub(crate) rank: Rank,
     /// The price, in 1/10,000 dollar.
     pub(crate) price: Price,
-    /// What a share costs there with the fee, in nanodollars.
+    /// What a share of the quotation costs with the fee, in nanodollars.
     pub(crate) cost: i64,
     /// The displayed size, in shares.
     pub(crate) size: u32,
@@ -96,22 +96,23 @@ impl PricedRow {
         Money::new(i128::from(self.cost))
     }
 
-    /// Whether the row must be swept before the order may trade at a price of that rank. It must if it is protected and at a
-    /// better price (17 CFR 242.600, "intermarket sweep order").
+    /// Whether the row must be swept before the order may trade at a price of the given rank. It must if it is protected and at
+    /// a better price (17 CFR 242.600, "intermarket sweep order").
     pub(crate) fn is_swept(&self, cutoff: Rank) -> bool
         ensures { result ≡ is_swept cutoff self.now }
     {
         self.protected && self.rank < cutoff
     }
 
-    /// Whether the row is at a worse price than one of that rank.
+    /// Whether the row is at a worse price than one of the given rank.
     pub(crate) fn is_beyond(&self, cutoff: Rank) -> bool
         ensures { result ≡ int_lt cutoff self.now.rank }
     {
         cutoff < self.rank
     }
 
-    /// Whether the row is in the pool at a price of that rank. It is if it is at that price or better, and need not be swept.
+    /// Whether the row is in the pool at a price of the given rank. It is if it is at that price or better, and need not be
+    /// swept.
     pub(crate) fn is_pooled(&self, cutoff: Rank) -> bool
         ensures { result ≡ is_pooled cutoff self.now }
     {

@@ -13,9 +13,10 @@ use nms_units::{MOST_SHARES, Money};
 /// The cost of n shares of a pool, the cheapest first.
 #[derive(Clone, Copy)]
 pub(crate) struct Taken {
-    /// The cost of the last of them with its fee, in nanodollars. If there are none, the cost of the cheapest.
+    /// The cost of the last of these shares with its fee, in nanodollars. If no share is taken, it is the cost of the cheapest
+    /// one.
     pub(crate) marginal: Money,
-    /// The cost of all of them with fees, in nanodollars.
+    /// The cost of all of these shares with fees, in nanodollars.
     pub(crate) cost: Money,
 }
 
@@ -48,14 +49,14 @@ pub(crate) fn take_cheapest(by_cost: &ByCost, cutoff: Rank, number: u64) -> Take
     taken
 }
 
-/// Whether a row of the pool has the shares that are needed.
+/// Whether a row is in the pool, and has all the shares that are still to be taken.
 fn has_last(row: &PricedRow, cutoff: Rank, number: u64) -> bool
     ensures { result ≡ has_last cutoff number row.now }
 {
     row.is_pooled(cutoff) && number <= u64::from(row.size)
 }
 
-/// The state after n shares of a row are taken.
+/// The cost after n shares of a row are taken too.
 fn with_shares(taken: Taken, row: &PricedRow, shares: u64) -> Taken
     requires shares { shares ≤ MOST_SIZE }
     requires low { neg_ℤ (pos (2 ^ 110)) ≤ℤ taken.cost }

@@ -1,6 +1,6 @@
-//! Random numbers, the same in each run.
+//! Numbers that look random, but are the same in each run.
 
-/// A linear congruence, of which the high bits are taken.
+/// The state of a linear congruential generator. Only the high bits of its numbers are used.
 #[derive(Drop)]
 pub(crate) struct Chance {
     pub(crate) state: u64,

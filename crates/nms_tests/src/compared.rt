@@ -1,5 +1,5 @@
-//! Comparing a plan of the planner with that of the plain slow one. The plan and the certificate are the same, and both are
-//! confirmed.
+//! Comparing a plan of the planner with the plan of a plain slow planner. Both plans and their certificates have to be the same
+//! and confirmed.
 ghost use Rattle.std.specs.Prelude.{◌≡◌, IfSome};
 
 use crate::plain::plain_plan;
@@ -23,7 +23,7 @@ pub(crate) struct Wanted {
     pub(crate) self_help: PartSet,
 }
 
-/// The order for a request on a view.
+/// The order for a symbol that has the wanted side, shares and limit. `None` if one of these is out of its range.
 fn order_for(sym: Sym, wanted: &Wanted) -> Option<Order>
     ensures { IfSome result (λ order. order.sym ≡ sym) }
 {
@@ -48,7 +48,7 @@ fn is_same(plan: &Plan, cuts: &Certificate, other: &Plan, other_cuts: &Certifica
         && cuts.as_slice() == other_cuts.as_slice()
 }
 
-/// What is wrong with the planner's answer; empty if nothing is.
+/// What is wrong with the planner's plan for an order; empty if nothing is. `None` if there is no such order or plan.
 pub(crate) fn finding(view: &View, fees: &FeeBook, wanted: &Wanted) -> Option<&'static str> {
     let order = order_for(view.sym(), wanted)?;
     let (plain, plain_cuts) = plain_plan(view, &order, fees)?;
@@ -73,7 +73,8 @@ pub(crate) struct Quoted {
     pub(crate) shares: u32,
 }
 
-/// Sends quotations for orders of a side, the first by the participant at the first place.
+/// Applies quotations on the side with which an order trades. The first is by the participant at place 0, the next at place 1,
+/// and so on.
 pub(crate) fn quote(
     boards: &mut Boards,
     sym: Sym,

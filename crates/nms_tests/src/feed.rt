@@ -1,4 +1,4 @@
-//! Tests of what no clause says: that the calls succeed and return, and a run of two threads.
+//! Tests of the lane: its calls succeed and return, and two threads send through it. No contract states these facts.
 ghost use Rattle.std.specs.Prelude.{◌≡◌, ◌≤◌, ◌+◌, ◌∷◌, [], length, IfErr, IfSome};
 ghost use Rattle.std.specs.List.{AllByRecursion};
 ghost use Rattle.std.specs.Vec.{vec_len, vec_capacity};
@@ -22,7 +22,7 @@ use std::test::Fail;
 use std::thread;
 use std::thread::{Promise, Threads};
 
-/// A bid of n shares by the participant at a place. The number distinguishes it from its other bids.
+/// A bid of n shares by the participant at a place. Its shares tell the bid from the participant's other bids.
 fn bid_of(place: u8, shares: u32) -> Option<Change> {
     let bid = SideQuote::new(Price::new(100_000)?, Shares::new(shares)?);
     Some(Change::Quote {
@@ -34,7 +34,7 @@ fn bid_of(place: u8, shares: u32) -> Option<Change> {
     })
 }
 
-/// The participant and the shares of a bid.
+/// The place of the bidding participant and the shares of a bid. `None` for any other change.
 fn told_by(change: &Change) -> Option<(u8, u32)> {
     match *change {
         Change::Quote { part, bid, .. } => Some((part.get(), bid?.shares.get())),
@@ -42,7 +42,7 @@ fn told_by(change: &Change) -> Option<(u8, u32)> {
     }
 }
 
-/// Takes once, and compares the change.
+/// Takes once from the lane, and compares the change with the wanted one.
 fn take_one<R: Wait + Abort>(rt: &R, taker: &mut Taker, wanted: Option<Change>)
     ensures { (taker.new.lane ≡ taker.old.lane) × (taker.new.senders ≡ taker.old.senders) }
 {
@@ -193,7 +193,7 @@ fn fill<R: Wait>(rt: &R, sender: &mut Sender, change: &Change) -> u32
     2000
 }
 
-/// How many changes a lane takes that was opened for n.
+/// How many changes a lane takes before it is full, if it was opened with a given capacity.
 fn room<R: Wait + Abort>(rt: &R, alloc: Global, capacity: usize) -> Option<u32> {
     if !(LEAST_CAPACITY..=MOST_CAPACITY).contains(&capacity) {
         return None;
@@ -227,7 +227,7 @@ fn a_taker_that_stops_and_takes_again_loses_nothing(rt: HostRuntime) {
     compare_closed(&rt, rt.alloc(), a, b, taker, (2, 1, 3));
 }
 
-/// Sends a bid from each sender of a lane. Its shares are one more than its feed's place. The senders come back in `back`.
+/// Sends a bid from each sender of a lane, and returns the senders. The shares of a bid are one more than the place of its feed.
 fn each_sends<R: Wait>(
     rt: &R,
     senders: Vec<Sender>,
@@ -245,7 +245,7 @@ fn each_sends<R: Wait>(
     back
 }
 
-/// Sends a bid whose shares are one more than its feed's place.
+/// Sends a bid from one sender. Its shares are one more than the place of the sender's feed.
 fn send_one<R: Wait>(rt: &R, mut sender: Sender) -> Sender
     requires { sender.sent ≡ [] }
     ensures lane { result.lane ≡ sender.lane }
@@ -299,7 +299,7 @@ fn send_1000<R: Wait>(rt: &R, mut sender: Sender, place: u8) -> Sender
     sender
 }
 
-/// Takes bids until there were n. Those of each participant come in the order of their shares.
+/// Takes n bids from the lane. Those of each participant have to come in the order of their shares.
 fn take_all<R: Wait + Abort>(rt: &R, mut taker: Taker, count: u32) -> Taker
     ensures lane { result.lane ≡ taker.lane }
     ensures senders { result.senders ≡ taker.senders }
@@ -323,7 +323,7 @@ fn take_all<R: Wait + Abort>(rt: &R, mut taker: Taker, count: u32) -> Taker
     taker
 }
 
-/// The shares of the last bids of two participants after one more bid, if that is the next one of its participant.
+/// The shares of the last bids of two participants after one more bid. `None` if that bid is not the next one of its participant.
 fn follows(last: (u32, u32), told: Option<(u8, u32)>) -> Option<(u32, u32)> {
     let (a, b) = last;
     match told? {

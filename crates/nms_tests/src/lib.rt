@@ -2,7 +2,7 @@
 //! live runs, the rank order of a board and its opening changes. The planner is compared with a plain slow one. Other facts
 //! that no clause states are tested in `nms_examples`, and the program's answers to a call in `examples/` and `tests/`.
 //!
-//! They are in a separate crate because the gate proves a crate once more for its own tests.
+//! The tests are in a separate crate, because the gate proves a crate a second time for the tests in it.
 #![tactic(auto)]
 
 #[cfg(test)]

@@ -21,7 +21,8 @@ use std::process::Abort;
 use std::sync::Wait;
 use std::thread::Threads;
 
-/// An order in numbers: the desk, the symbol's place, shares, and a limit in 1/10,000 dollar.
+/// An order as numbers: its desk, its side, the symbol's place, the shares, a limit in 1/10,000 dollar, and whether it takes
+/// manual quotations.
 #[derive(Clone, Copy)]
 pub(crate) struct Wanted {
     pub(crate) desk: u8,
@@ -32,7 +33,8 @@ pub(crate) struct Wanted {
     pub(crate) manual: bool,
 }
 
-/// A setup of N and P on feed A, Y and Z on feed B, ABC and PNY in lots of 100, with the given limits.
+/// The text of a setup: N and P on feed A, Y and Z on feed B, ABC and PNY in lots of 100. The limit of the tape, the room in the
+/// queue and the number of desks are given.
 pub(crate) fn setup_text<R: Abort>(
     rt: &R,
     alloc: Global,
@@ -47,7 +49,7 @@ pub(crate) fn setup_text<R: Abort>(
     .expect(rt, "memory")
 }
 
-/// The participants and symbols of that setup.
+/// The participants N, P, Y and Z and the symbols ABC and PNY, as a setup's text gives them.
 fn participants() -> &'static str {
     r#"
 [[participant]]
@@ -79,7 +81,7 @@ lot = 100
 "#
 }
 
-/// The order with these numbers.
+/// The order that the numbers in a row of a table give.
 pub(crate) fn order_of(wanted: &Wanted) -> Option<Order> {
     let side = if wanted.buys {
         OrderSide::Buy
@@ -98,7 +100,7 @@ pub(crate) fn order_of(wanted: &Wanted) -> Option<Order> {
     )
 }
 
-/// Adds an order, if its desk is one of n.
+/// Adds an order to a list. An order for a desk that the setup does not have is left out.
 fn add_order<R: Abort>(rt: &R, orders: &mut Vec<DeskOrder>, desks: u8, wanted: &Wanted)
     requires { All (λ order. order.desk < desks) orders.old.items }
     ensures { All (λ order. order.desk < desks) orders.new.items }
@@ -110,7 +112,7 @@ fn add_order<R: Abort>(rt: &R, orders: &mut Vec<DeskOrder>, desks: u8, wanted: &
     }
 }
 
-/// The orders of a table, each of one of n desks.
+/// The orders of a table, without those for a desk that the setup does not have.
 fn orders_of<R: Abort>(rt: &R, alloc: Global, desks: u8, table: &[Wanted]) -> Vec<DeskOrder>
     ensures { All (λ order. order.desk < desks) result.items }
 {
@@ -131,7 +133,7 @@ fn texts_of<R: Abort>(rt: &R, alloc: Global, feeds: &[&[u8]]) -> Vec<Vec<u8>> {
     texts
 }
 
-/// A run of these orders. The setup has to have the same number of feeds.
+/// Runs feeds with orders. The setup has to have as many feeds as there are texts.
 fn run_orders<R: Threads + Wait + Abort + Sync, G: Gate>(
     rt: &R,
     alloc: Global,
@@ -147,7 +149,7 @@ fn run_orders<R: Threads + Wait + Abort + Sync, G: Gate>(
     run_live(rt, alloc, setup, texts, orders, gate)
 }
 
-/// Makes one run.
+/// Makes one live run over the texts of feeds and a table of orders.
 fn run_once<R: Threads + Wait + Abort + Sync, G: Gate>(
     rt: &R,
     alloc: Global,
@@ -160,7 +162,7 @@ fn run_once<R: Threads + Wait + Abort + Sync, G: Gate>(
     run_orders(rt, alloc, setup, feeds, orders, gate)
 }
 
-/// Makes a run over a setup's text.
+/// Makes a live run under the setup that a text gives.
 pub(crate) fn run<R: Threads + Wait + Abort + Sync, G: Gate>(
     rt: &R,
     alloc: Global,
@@ -173,7 +175,7 @@ pub(crate) fn run<R: Threads + Wait + Abort + Sync, G: Gate>(
     run_under(rt, alloc, &setup, feeds, table, gate)
 }
 
-/// Makes a run. If it could not be opened, it is tried up to 100 times, because a reader's place may be missing without a cause.
+/// Makes a live run under a setup. The opening may fail because no place for a reader is free, so it tries up to 100 times.
 fn run_under<R: Threads + Wait + Abort + Sync, G: Gate>(
     rt: &R,
     alloc: Global,

@@ -1,5 +1,5 @@
-//! A board that is reopened: a new one that takes its opening changes. Those of random boards are judged through the library
-//! (`tests/judge_ranks.py`).
+//! Reopening a board: a new board takes the opening changes of another one. Reopened boards with random changes are judged
+//! through the library (`tests/judge_ranks.py`).
 ghost use Rattle.std.specs.Prelude.{◌≡◌};
 ghost use Rattle.nms_quote.specs.Roster.{sizes_of};
 
@@ -13,19 +13,19 @@ use nms_units::Lot;
 use std::alloc::Global;
 use std::process::Abort;
 
-/// A board with one quotation is reopened: it took one change, and shows the shares.
+/// A board with one quotation is reopened. The new board took one change, and shows the same shares.
 #[test]
 fn a_board_is_reopened(rt: HostRuntime) {
     same(&rt, reopened_in_all(&rt, rt.alloc()), Some((1, 300)));
 }
 
-/// The version of a board that was reopened, and the shares of its offers.
+/// The version of a reopened board under the built-in setup, and the shares of its offers.
 fn reopened_in_all<R: Abort>(rt: &R, alloc: Global) -> Option<(u64, u64)> {
     let setup = read_setup(alloc, SETUP_K).expect(rt, "a setup");
     reopened_under(rt, alloc, setup.roster())
 }
 
-/// As `reopened_in_all`, for a roster.
+/// The version of a reopened board of a roster, and the shares of its offers. The board before it had one offer of 300 shares.
 fn reopened_under<R: Abort>(rt: &R, alloc: Global, roster: &Roster) -> Option<(u64, u64)> {
     // The prover has to see the types of a change before it is held, so the code mentions them.
     let _seen: (Option<SideQuote>, Option<Lot>) = (None, None);
@@ -36,7 +36,8 @@ fn reopened_under<R: Abort>(rt: &R, alloc: Global, roster: &Roster) -> Option<(u
     }
 }
 
-/// As `reopened_under`, for a board after one change.
+/// Applies a change to a board, and reopens it. Returns how many changes the new board took, and the shares that it shows as
+/// offered. `None` if the first board does not take the change.
 fn reopened_after<R: Abort>(
     rt: &R,
     alloc: Global,

@@ -19,7 +19,7 @@ struct Offered {
     cost: i128,
 }
 
-/// The quotation for a list's unused places.
+/// An empty quotation, which fills the unused places of a list.
 impl Default for Offered {
     fn default() -> Self {
         Offered {
@@ -54,7 +54,7 @@ impl Market {
         row.protected && self.is_better(row.price, price)
     }
 
-    /// Whether a row is one of those from which the rest may come.
+    /// Whether a row is in the pool at a price: the order may trade with it there, and does not have to sweep it.
     fn is_in_pool(&self, row: &Offered, price: Price) -> bool {
         !self.is_better(price, row.price) && !self.is_swept(row, price)
     }
@@ -70,7 +70,7 @@ impl Market {
         }
     }
 
-    /// How many shares have to be swept.
+    /// How many shares the order has to sweep before it may trade at a price.
     fn swept(&self, price: Price) -> u64 {
         let mut shares = 0u64;
         for row in self.rows.as_slice() {
@@ -81,7 +81,7 @@ impl Market {
         shares
     }
 
-    /// How many shares the pool has.
+    /// How many shares the pool has at a price, which the order may trade with but does not have to sweep.
     fn pool(&self, price: Price) -> u64 {
         let mut shares = 0u64;
         for row in self.rows.as_slice() {
@@ -103,7 +103,7 @@ impl Market {
         shares
     }
 
-    /// How many shares a row is given.
+    /// How many shares a row receives if a given price is the worst one of the plan.
     fn given(&self, row: &Offered, price: Price) -> u64 {
         if self.is_swept(row, price) {
             row.size
@@ -116,7 +116,7 @@ impl Market {
         }
     }
 
-    /// The cost of all shares.
+    /// The cost of all shares if a given price is the worst one of the plan, in nanodollars.
     fn cost(&self, price: Price) -> i128 {
         let mut cost = 0i128;
         for row in self.rows.as_slice() {
@@ -126,7 +126,8 @@ impl Market {
         cost
     }
 
-    /// The cost of the last share that is taken from the pool, or of its cheapest share if none is taken.
+    /// The cost of the last share that is taken from the pool, in nanodollars. If none is taken, the cost of the pool's cheapest
+    /// share.
     fn last_cost(&self, price: Price) -> i128 {
         let number = self.most.saturating_sub(self.swept(price)).max(1);
         for row in self.rows.as_slice() {
@@ -141,7 +142,7 @@ impl Market {
         0
     }
 
-    /// The kind of the cut at a price.
+    /// The kind of the certificate's statement about a price.
     fn kind(&self, price: Price) -> CutKind {
         let swept = self.swept(price);
         if self.most < swept {
@@ -153,7 +154,7 @@ impl Market {
         }
     }
 
-    /// The best price that is worse than the given one.
+    /// The best price that is worse than a given one; the best of all if none is given. `None` if there is no such price.
     fn price_behind(&self, last: Option<Price>) -> Option<Price> {
         let mut found: Option<Price> = None;
         for row in self.rows.as_slice() {
@@ -172,7 +173,7 @@ impl Market {
         found
     }
 
-    /// A cut for each price, the best first.
+    /// The certificate: a statement about each price at which the order could trade, the best price first.
     fn cuts(&self) -> Certificate {
         let mut cuts = ArrayVec::new_in(());
         let mut last = None;
@@ -187,7 +188,7 @@ impl Market {
         cuts
     }
 
-    /// The price of least cost; if several have it, the best one.
+    /// The worst price of the plan with the least cost. If several plans cost the same, it is the best of their worst prices.
     fn chosen(&self, cuts: &Certificate) -> Option<Price> {
         let mut best: Option<Price> = None;
         for cut in cuts.as_slice() {
@@ -204,7 +205,7 @@ impl Market {
         best
     }
 
-    /// The legs if the worst price is the chosen one, by the best price first, then the lower place.
+    /// The legs of the plan whose worst price is the chosen one, in order of price, the best first, then of place.
     fn legs(&self, cuts: &Certificate, chosen: Price) -> Option<ArrayVec<Leg, 32>> {
         let mut legs = ArrayVec::new_in(());
         for cut in cuts.as_slice() {

@@ -1,4 +1,4 @@
-//! Comparing the planner with the plain slow one on every small board.
+//! Comparing the planner with a plain slow planner on every small board.
 use crate::compared::{Quoted, Wanted, finding, quote};
 use crate::same::same;
 use nms_board::{Boards, View};
@@ -7,7 +7,7 @@ use nms_quote::{OrderSide, PartSet, QState, Sym};
 use std::alloc::Global;
 use std::process::Abort;
 
-/// The quotation with a number below 12: automated or manual, at 0.9999, 1.0000 or 1.0001, with 100 or 200 shares.
+/// One of twelve quotations, by its number: automated or manual, at 0.9999, 1.0000 or 1.0001, with 100 or 200 shares.
 fn quoted_as(number: u32) -> Quoted {
     Quoted {
         state: if number % 2 == 0 {
@@ -52,7 +52,8 @@ fn plan_each(
     (right, "")
 }
 
-/// As `plan_each`, on each board of three quotations.
+/// Plans orders on each of the 1,728 boards of three quotations of a side. Returns how many plans were right, and what is wrong
+/// with the first that is not.
 fn plan_all(
     boards: &mut Boards,
     fees: &FeeBook,
@@ -93,7 +94,8 @@ fn plan_small<R: Abort>(rt: &R, alloc: Global) -> (u32, &'static str) {
     plan_both_sides(rt, &mut boards, &setup)
 }
 
-/// As `plan_all`, on a board, for orders of both sides: those that name no participant and those that name P.
+/// Plans orders of both sides, with no participant under self-help and then with P. Returns how many plans were right, and what
+/// is wrong with the first that is not.
 fn plan_both_sides<R: Abort>(rt: &R, boards: &mut Boards, setup: &Setup) -> (u32, &'static str) {
     let sym = setup.roster().find_sym(b"ABC").expect(rt, "ABC");
     let p = setup.roster().find_part(b"P").expect(rt, "P");

@@ -1,4 +1,5 @@
-//! The one comparison of all tests. A test that compares by a call has less to prove than one that formats the difference.
+//! The one comparison that all tests use. A call to it leaves less to prove than a comparison that formats the difference in
+//! place.
 use std::fmt::Debug;
 use std::process::Abort;
 

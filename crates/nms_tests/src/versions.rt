@@ -1,4 +1,4 @@
-//! Published versions: what no clause says, and the worked steps with values worked out by hand.
+//! Tests of published versions: facts that no contract states, and steps with values worked out by hand.
 ghost use Rattle.std.specs.Prelude.{◌≡◌, All, IfOk, IfSome};
 
 use crate::same::same;
@@ -62,7 +62,7 @@ fn change_of((place, price, shares): Offer) -> Option<Change> {
     })
 }
 
-/// The two desks of an opening.
+/// The two desks that were opened with a publisher.
 fn two_of(publisher: &Publisher, mut desks: Vec<Desk>) -> Option<(Desk, Desk)>
     requires { All (λ desk. desk.opening ≡ publisher.now.opening) desks.items }
     ensures { IfSome result (λ ends. (ends.0.opening ≡ publisher.now.opening) × (ends.1.opening ≡ publisher.now.opening)) }
@@ -72,7 +72,7 @@ fn two_of(publisher: &Publisher, mut desks: Vec<Desk>) -> Option<(Desk, Desk)>
     Some((one, other))
 }
 
-/// The publisher and its two desks.
+/// A publisher with the two desks that were opened with it.
 fn with_two<R: Abort>(rt: &R, publisher: Publisher, desks: Vec<Desk>) -> (Publisher, Desk, Desk)
     requires { All (λ desk. desk.opening ≡ publisher.opening) desks.items }
     ensures { (result.1.opening ≡ result.0.opening) × (result.2.opening ≡ result.0.opening) }
@@ -83,7 +83,7 @@ fn with_two<R: Abort>(rt: &R, publisher: Publisher, desks: Vec<Desk>) -> (Publis
     (publisher, one, other)
 }
 
-/// Opens with two desks; `None` if there was no place for a reader.
+/// Opens a publisher with two desks. `None` if no place for a reader was free.
 fn try_open<R: Wait + Abort>(
     alloc: Global,
     rt: &R,
@@ -98,7 +98,7 @@ fn try_open<R: Wait + Abort>(
     }
 }
 
-/// Opens with two desks. V2 may come without a cause, so it tries up to 100 times.
+/// Opens a publisher with two desks. It tries up to 100 times, because a reader's place may be missing without a cause (V2).
 fn open<R: Wait + Abort>(
     alloc: Global,
     rt: &R,
@@ -114,7 +114,7 @@ fn open<R: Wait + Abort>(
     Err(Fail::from("a place"))
 }
 
-/// Opens over a setup's text.
+/// Opens a publisher with two desks under the setup that a text gives.
 fn open_on<R: Wait + Abort>(
     alloc: Global,
     rt: &R,
@@ -176,7 +176,7 @@ fn looked(desk: &mut Desk) -> Result<(u64, usize), NoReading>
     Ok((view.version(), view.count(Side::Offer)))
 }
 
-/// Informs a desk of the published version, and gives its number.
+/// Informs a desk of the published version, and returns that version.
 fn tell(publisher: &mut Publisher, desk: &mut Desk) -> u64
     requires { desk.old.opening ≡ publisher.old.opening }
     ensures publisher { publisher.new.opening ≡ publisher.old.opening }
@@ -198,8 +198,8 @@ fn place_of(word: &str) -> u8 {
     }
 }
 
-/// The answer to the step that a word names. A participant's letter appends its offer, desk 0 is informed of the published
-/// version, a desk looks, a lot is a new round lot.
+/// Makes the step that a word names, and returns its answer. A participant's letter appends its offer. Other words publish,
+/// inform desk 0, measure the tape, look from a desk, or append a new round lot.
 fn go<R: Wait + Abort>(
     rt: &R,
     alloc: Global,
@@ -240,7 +240,7 @@ fn seen<R: Abort>(rt: &R, alloc: Global, look: Result<(u64, usize), NoReading>) 
     }
 }
 
-/// Opens, makes each step and compares its answer.
+/// Opens a publisher with two desks, makes each step and compares its answer with the expected one.
 fn run<R: Wait + Abort>(
     rt: &R,
     alloc: Global,
@@ -252,7 +252,7 @@ fn run<R: Wait + Abort>(
     Ok(())
 }
 
-/// Makes each step and compares its answer. A desk sees nothing once the publisher is closed.
+/// Makes each step and compares its answer. Then it closes the publisher, after which a desk sees nothing.
 fn run_on<R: Wait + Abort>(
     rt: &R,
     alloc: Global,
@@ -268,13 +268,13 @@ fn run_on<R: Wait + Abort>(
     see_nothing(rt, alloc, &mut one);
 }
 
-/// Looks once the publisher is closed.
+/// Checks that a desk sees nothing after the publisher was closed.
 fn see_nothing<R: Abort>(rt: &R, alloc: Global, desk: &mut Desk) {
     let answer = seen(rt, alloc, looked(desk));
     same(rt, answer.as_str(), "V5: no reading");
 }
 
-/// Makes each step and compares its answer.
+/// Makes each step and compares its answer with the expected one.
 fn make_all<R: Wait + Abort>(
     rt: &R,
     alloc: Global,
@@ -313,7 +313,7 @@ fn desks_see_what_is_published_told_or_not(rt: HostRuntime) -> Result<(), Fail> 
     run(&rt, rt.alloc(), SETUP_K, &steps)
 }
 
-/// Offers of 100 shares are hidden under a lot of 101, once it is published, and are shown again under one of 40.
+/// Offers of 100 shares are hidden once a round lot of 101 is published, and are shown again under one of 40.
 #[test]
 fn desks_see_a_new_round_lot_once_it_is_published(rt: HostRuntime) -> Result<(), Fail> {
     let steps = [
@@ -377,7 +377,8 @@ fn a_desk_that_was_told_of_a_version_settles_on_none_before_it(
     Ok(())
 }
 
-/// Settles a desk on an early receipt, which is refused, and then, with the publisher closed, on that of version 3.
+/// Settles a desk on an early receipt, which is refused. Then it closes the publisher, and settles the desk on a receipt of
+/// version 3.
 fn settle_twice<R: Wait + Abort>(
     rt: &R,
     publisher: Publisher,
@@ -397,12 +398,12 @@ fn settle_twice<R: Wait + Abort>(
     same(rt, settled, Some(3));
 }
 
-/// The worked offers: N's, P's and Y's.
+/// The three offers of the worked steps: 300 by N and 500 by P at 10.00, and 200 by Y at 10.01.
 fn worked() -> [Offer; 3] {
     [(0, 100_000, 300), (1, 100_000, 500), (2, 100_100, 200)]
 }
 
-/// Appends the worked offers.
+/// Appends the three offers of N, P and Y that the worked steps use.
 fn append_worked<R: Abort>(rt: &R, publisher: &mut Publisher)
     ensures { publisher.new.opening ≡ publisher.old.opening }
 {
@@ -411,7 +412,7 @@ fn append_worked<R: Abort>(rt: &R, publisher: &mut Publisher)
     }
 }
 
-/// Whether rows are these offers.
+/// Whether rows show exactly the given offers, in order.
 fn are_offers(rows: &[Row], offers: &[Offer]) -> bool {
     for (row, (place, price, shares)) in rows.iter().zip(offers) {
         if (row.part.get(), row.price.get(), row.size) != (*place, *price, *shares) {
@@ -421,7 +422,7 @@ fn are_offers(rows: &[Row], offers: &[Offer]) -> bool {
     rows.len() == offers.len()
 }
 
-/// Whether a look at ABC shows version 3 with the worked offers.
+/// Whether a look at ABC shows version 3 with the three offers of N, P and Y.
 fn sees_worked(desk: &mut Desk) -> bool
     ensures { desk.new.opening ≡ desk.old.opening }
 {
@@ -434,8 +435,8 @@ fn sees_worked(desk: &mut Desk) -> bool
     }
 }
 
-/// Desk 0 is informed of version 3, desk 1 of nothing. Both see all of it, and desk 0 still does after two more changes that
-/// are not published. It settles on no receipt of version 0, and on a second one of version 3.
+/// Desk 0 is informed of version 3, desk 1 of nothing. Both see all three offers. Desk 0 still does after two more changes that
+/// are not published. It does not settle on a receipt of version 0, but on one of version 3.
 #[test]
 fn a_desk_settles_on_what_it_saw_and_was_told_of(rt: HostRuntime) -> Result<(), Fail> {
     let (mut publisher, mut one, mut other) = open_on(rt.alloc(), &rt, SETUP_K)?;
@@ -463,7 +464,8 @@ fn a_desk_settles_on_what_it_saw_and_was_told_of(rt: HostRuntime) -> Result<(), 
     Ok(())
 }
 
-/// Appends an offer to a tape of n changes. A refused one leaves the tape and the view, and is appended once there is memory.
+/// Appends an offer to a tape of n changes. If memory is short, the tape and the view stay as they were. Then it appends the
+/// offer once more.
 fn append_again<R: Abort>(rt: &R, publisher: &mut Publisher, desk: &mut Desk, count: u64) {
     let mut told = append(rt, publisher, 0);
     if told == "V3" {
@@ -474,8 +476,8 @@ fn append_again<R: Abort>(rt: &R, publisher: &mut Publisher, desk: &mut Desk, co
     same(rt, (count, told), (count, "ok"));
 }
 
-/// Run with each allocation refused in turn (`rt try --test --fail-alloc N`): the opening ends the test by V1. A refused change
-/// leaves the tape and the view, and is appended once there is memory.
+/// A run in which each allocation is refused in turn (`rt try --test --fail-alloc N`). A refused opening ends the test with code
+/// V1. A refused change leaves the tape and the view, and is appended once there is memory.
 #[test]
 fn out_of_memory_leaves_the_tape_as_it_was(rt: HostRuntime) -> Result<(), Fail> {
     let (mut publisher, mut desk, _other) = open_on(rt.alloc(), &rt, SETUP_K)?;
@@ -486,7 +488,7 @@ fn out_of_memory_leaves_the_tape_as_it_was(rt: HostRuntime) -> Result<(), Fail> 
     Ok(())
 }
 
-/// Appends 70 offers.
+/// Appends 70 offers, and repeats each that was refused for lack of memory.
 fn append_70<R: Abort>(rt: &R, publisher: &mut Publisher, desk: &mut Desk) {
     for count in 0..70u64 {
         append_again(rt, publisher, desk, count);
@@ -505,7 +507,7 @@ fn never_falls(desk: &mut Desk, looks: u32) -> bool {
     true
 }
 
-/// Publishes a change n times.
+/// Appends and publishes one offer, n times.
 fn publish_often<R: Wait + Abort>(rt: &R, publisher: &mut Publisher, times: u32)
     ensures { publisher.new.opening ≡ publisher.old.opening }
 {
@@ -515,7 +517,7 @@ fn publish_often<R: Wait + Abort>(rt: &R, publisher: &mut Publisher, times: u32)
     }
 }
 
-/// Runs a publisher of 1,000 publications next to a desk of 2,000 looks.
+/// Publishes 1,000 times while a desk makes 2,000 looks. Returns whether the versions that the desk saw never fell.
 fn run_two<R: Threads + Wait + Abort + Sync>(
     rt: &R,
     publisher: &mut Publisher,
@@ -529,7 +531,7 @@ fn run_two<R: Threads + Wait + Abort + Sync>(
     looked
 }
 
-/// As `run_two`, next to two desks, each in its own thread.
+/// Publishes 1,000 times while two desks look, each in its own thread. Returns whether the versions that each saw never fell.
 fn run_three<R: Threads + Wait + Abort + Sync>(
     rt: &R,
     publisher: &mut Publisher,
@@ -548,7 +550,7 @@ fn a_thousand_publications_beside_two_desks_never_fall(rt: HostRuntime) -> Resul
     let (mut publisher, mut one, mut other) = open_on(rt.alloc(), &rt, SETUP_K)?;
     let looks = run_three(&rt, &mut publisher, &mut one, &mut other);
     same(&rt, looks, (true, true));
-    // This is refused because the tape is full.
+    // The tape is full, so this change is refused.
     same(&rt, append(&rt, &mut publisher, 0), "V4");
     same(&rt, looked(&mut one), Ok((1000, 1)));
     same(&rt, publisher.close(&rt).len(), 1000);

@@ -14,10 +14,10 @@ use nms_quote::{Roster, Side, Sym};
 use nms_units::Price;
 use std::alloc::AllocError;
 
-/// Room for the record of a best bid and offer, which takes at most 147 bytes after its market and 66 before.
+/// The room, in bytes, for the record of a best bid and offer, which takes at most 147 bytes after its market and 66 before.
 const BEST_ROOM: usize = 224;
 
-/// Appends the record that refuses the record with that number.
+/// Appends an `ERR` record, which refuses the record of the given number.
 pub fn tell_refusal(out: &mut Vec<u8>, number: u64, code: &str) -> Result<(), AllocError>
     ensures { OnOk result (out.new.items ≡ out.old.items ++ text_of (refusal number code.now ∷ [])) }
 {
@@ -27,7 +27,7 @@ pub fn tell_refusal(out: &mut Vec<u8>, number: u64, code: &str) -> Result<(), Al
     end_record(out)
 }
 
-/// Appends that a change was taken, and the tape's length after it.
+/// Appends a `TAKEN` record: a change was taken to the tape, which now has the given length.
 pub fn tell_taken(out: &mut Vec<u8>, version: u64) -> Result<(), AllocError>
     ensures { OnOk result (out.new.items ≡ out.old.items ++ text_of (taken_record version ∷ [])) }
 {
@@ -36,7 +36,7 @@ pub fn tell_taken(out: &mut Vec<u8>, version: u64) -> Result<(), AllocError>
     end_record(out)
 }
 
-/// Appends that a version was published.
+/// Appends a `PUB` record: a version was published.
 pub fn tell_published(out: &mut Vec<u8>, version: u64) -> Result<(), AllocError>
     ensures { OnOk result (out.new.items ≡ out.old.items ++ text_of (published_record version ∷ [])) }
 {
@@ -45,7 +45,7 @@ pub fn tell_published(out: &mut Vec<u8>, version: u64) -> Result<(), AllocError>
     end_record(out)
 }
 
-/// Appends that a desk has learned of a version.
+/// Appends a `TOLD` record: a desk has learned of a version.
 pub fn tell_told(out: &mut Vec<u8>, desk: u8, version: u64) -> Result<(), AllocError>
     ensures { OnOk result (out.new.items ≡ out.old.items ++ text_of (told_record desk version ∷ [])) }
 {

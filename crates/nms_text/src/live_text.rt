@@ -13,8 +13,8 @@ use nms_quote::{Answer, Roster};
 use std::alloc::{AllocError, Global};
 use std::io::Write;
 
-/// Writes how many changes a live run took, and for each order in order its answer on all of them. An answer has the desk, the
-/// order's number, and the plan with its certificate. It is one write, flushed.
+/// Writes how many changes a live run took, and then the answer to each order on all of these changes, in order. An answer has
+/// the desk, the order's number, and the plan with its certificate. All of the text is one write, flushed.
 ///
 /// After `WriteFault` a prefix of that text was written; after any other fault nothing was.
 pub fn write_live<W: Write>(
@@ -51,7 +51,7 @@ fn tell_live(
     tell_answers(out, roster, closing)
 }
 
-/// Appends how many changes were taken.
+/// Appends how many changes a live run took.
 fn tell_tape(out: &mut Vec<u8>, taken: u64) -> Result<(), AllocError>
     ensures { OnOk result (out.new.items ≡ out.old.items ++ text_of (tape_record taken ∷ [])) }
 {
@@ -60,7 +60,7 @@ fn tell_tape(out: &mut Vec<u8>, taken: u64) -> Result<(), AllocError>
     end_record(out)
 }
 
-/// Appends answers, one after another.
+/// Appends the answers to orders, one after another.
 fn tell_answers(out: &mut Vec<u8>, roster: &Roster, answers: &[Answer]) -> Result<(), AllocError>
     ensures { OnOk result (out.new.items ≡ out.old.items ++ text_of (flat_map (answer_records roster.now) answers.now)) }
 {
@@ -70,7 +70,7 @@ fn tell_answers(out: &mut Vec<u8>, roster: &Roster, answers: &[Answer]) -> Resul
     Ok(())
 }
 
-/// Appends an answer: its desk and number, then its plan.
+/// Appends the answer to an order: the desk, the order's number, and the plan.
 fn tell_answer(out: &mut Vec<u8>, roster: &Roster, answer: &Answer) -> Result<(), AllocError>
     ensures { OnOk result (out.new.items ≡ out.old.items ++ text_of (answer_records roster.now answer.now)) }
 {

@@ -17,8 +17,8 @@ use nms_units::Price;
 use std::io::Write;
 use std::{fmt, io};
 
-/// Writes the report of one symbol, a line each. It has the version and market, the bids and the offers by participant place,
-/// and the pairs that lock or cross in order of place.
+/// Writes the report of one symbol. It has the version and market, the bids and the offers by participant place, and the pairs
+/// that lock or cross in order of place. Each row and each pair has its own line.
 ///
 /// Takes no memory, and makes many small writes: pass a buffered writer. `WriteFault` is its only fault, and does not say how
 /// much was written.
@@ -112,7 +112,7 @@ fn write_pairs<W: Write>(writer: &mut W, roster: &Roster, view: &View) -> io::Re
     write_pairs_from(writer, roster, view, first)
 }
 
-/// Writes the pairs from a place on.
+/// Writes the pairs that lock or cross, from a place of the walk over the pairs on.
 fn write_pairs_from<W: Write>(
     writer: &mut W,
     roster: &Roster,
@@ -130,7 +130,7 @@ fn write_pairs_from<W: Write>(
     Ok(())
 }
 
-/// Writes a pair.
+/// Writes a pair that locks or crosses.
 fn write_pair<W: Write>(writer: &mut W, roster: &Roster, pair: &Pair) -> io::Result<()>
     requires bid { pair.now.bid.part < length roster.now.parts }
     requires offer { pair.now.offer.part < length roster.now.parts }

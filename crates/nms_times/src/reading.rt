@@ -11,17 +11,17 @@ use crate::times_fault::TimesFault;
 use nms_units::parse_digits;
 use std::alloc::{AllocError, Global};
 
-/// How many bytes a line has: a time and a line feed.
+/// The number of bytes in a line that has only a time and a line feed.
 const SHORT: usize = 16;
-/// How many bytes a line has if it names the row of the source: a time, a comma, the row and a line feed.
+/// The number of bytes in a line with a row of the vendor's file: a time, a comma, the row and a line feed.
 const LONG: usize = 32;
-/// How many bytes a time has.
+/// The number of digits in a time, HHMMSSnnnnnnnnn, which is also the number of digits in a row.
 const TIME: usize = 15;
 
-/// Reads the text of times, which has a line for each change: 15 digits HHMMSSnnnnnnnnn and a line feed. If every line has a
-/// row, a comma and its 15 digits are between. Takes 8 bytes of memory a line.
+/// Reads a file of times, which has a line for each change: 15 digits HHMMSSnnnnnnnnn and a line feed. If lines name rows of the
+/// vendor's file, a comma and the row's 15 digits follow the time. This takes 8 bytes of memory a line.
 ///
-/// `NotTime` has the first line that is not a time. `NoMemory` may replace any answer.
+/// `NotTime` names the first line that is malformed. `NoMemory` may replace any answer.
 pub fn read_times(alloc: Global, text: &[u8]) -> Result<Times, TimesFault>
     ensures read { IfOk result (λ times. HasTimes text.now times) }
     ensures refused { IfErr result (IsReadFault text.now) }
@@ -31,7 +31,8 @@ pub fn read_times(alloc: Global, text: &[u8]) -> Result<Times, TimesFault>
     Ok(Times::of(all))
 }
 
-/// The row of the source in a version's line. `None` if the lines have no rows, for version 0, and past the lines.
+/// The number of the vendor's row that made a version's last change. It is `None` for version 0, for later versions than the
+/// last, or without rows.
 pub fn source_row(text: &[u8], version: u64) -> Option<u64>
     ensures { result ≡ row_of text.now version }
 {
@@ -76,7 +77,7 @@ fn keep(all: &mut Vec<TimeOfDay>, time: TimeOfDay) -> Result<(), AllocError>
     Ok(())
 }
 
-/// How many bytes a line of a text has.
+/// The number of bytes in each line of a file of times, which its first line decides.
 fn width_of(text: &[u8]) -> usize
     ensures width { result ≡ width_of text.now }
     ensures low { 16 ≤ result }
@@ -88,7 +89,7 @@ fn width_of(text: &[u8]) -> usize
     }
 }
 
-/// The line at a place, counted from 0.
+/// The line of a file of times at a place, counted from 0. Each line has the given number of bytes.
 fn line_at(text: &[u8], width: usize, place: usize) -> &[u8]
     requires { place * width + width ≤ length text.now }
     ensures line { result.now ≡ line_at width text.now place }
@@ -114,7 +115,7 @@ fn time_in(width: usize, line: &[u8]) -> Option<TimeOfDay>
     }
 }
 
-/// Whether these bytes may end a line after its time.
+/// Whether the given bytes may follow the time in a line: a line feed, or a comma, 15 digits and a line feed.
 fn is_end(rest: &[u8]) -> bool
     ensures { result ≡ is_end rest.now }
 {

@@ -17,7 +17,7 @@ pub struct Rising<'a> {
 }
 
 impl Rising<'_> {
-    /// The version at a time, which is the last with no change later than it.
+    /// The last version whose changes all have the given time or an earlier one.
     pub fn version_at(&self, time: TimeOfDay) -> u64
         ensures version { result ≡ self.now.before + version_at self.now.times.now time }
         ensures high { result ≤ self.now.before + length self.now.times.now }
@@ -30,7 +30,7 @@ impl Rising<'_> {
         self.before + found as u64
     }
 
-    /// The version before a time, which is the last with only changes earlier than it.
+    /// The last version whose changes are all earlier than the given time.
     pub fn version_before(&self, time: TimeOfDay) -> u64
         ensures version { result ≡ self.now.before + version_before self.now.times.now time }
         ensures high { result ≤ self.now.before + length self.now.times.now }

@@ -4,19 +4,21 @@ ghost use Rattle.std.specs.Prelude.{◌≡◌, ◌<◌, ◌≤◌, IfOk, IfSome,
 use crate::times_fault::TimesFault;
 use nms_units::parse_digits;
 
-/// The changes of a symbol: those after a version, up to another. Other changes may be between them.
+/// The range of versions in which a symbol has its changes: after one version, up to another. Changes of other symbols may be
+/// among them.
 #[derive(Clone, Copy, Debug, PartialEq, Eq)]
 pub struct Span {
-    /// The version before the first change.
+    /// The version before the symbol's first change.
     pub before: usize,
-    /// The version after the last change.
+    /// The version after the symbol's last change.
     pub last: usize,
 }
 
-/// The span of a symbol in the text of symbols. A line has a name, a comma, the version after its first change, a comma, and
-/// the version after its last. `None` if no line has the name; the first of several counts.
+/// Finds the range of a symbol's versions in a file of symbols. A line has a name, the version after the symbol's first change,
+/// and the version after its last, with commas between. The result is `None` if no line has the name. If several lines have it,
+/// the first one counts.
 ///
-/// `NotSymbol` has the first line that is malformed, or whose versions are not from 1 to the number given.
+/// `NotSymbol` names the first line that is malformed, or whose versions are not from 1 to the given number of versions.
 pub fn find_span(text: &[u8], symbol: &[u8], versions: usize) -> Result<Option<Span>, TimesFault>
     ensures { IfOk result (λ found. IfSome found (λ span. (span.before < span.last) × (span.last ≤ versions))) }
 {
@@ -36,7 +38,7 @@ pub fn find_span(text: &[u8], symbol: &[u8], versions: usize) -> Result<Option<S
     Ok(found)
 }
 
-/// The name and the span of the first line, and the lines after it.
+/// The name and the range of versions in the first line, and the lines after it.
 fn first_span(text: &[u8], versions: usize) -> Option<(&[u8], Span, &[u8])>
     ensures within { IfSome result (λ it. (it.1.before < it.1.last) × (it.1.last ≤ versions)) }
     ensures shorter { IfSome result (λ it. length it.2.now < length text.now) }
@@ -55,7 +57,7 @@ fn first_span(text: &[u8], versions: usize) -> Option<(&[u8], Span, &[u8])>
     Some((name, span, rest))
 }
 
-/// The bytes before the first byte with a value, and the bytes after it.
+/// The bytes before the first occurrence of the given byte, and the bytes after it.
 fn before_byte(text: &[u8], byte: u8) -> Option<(&[u8], &[u8])>
     ensures { IfSome result (λ it. length it.1.now < length text.now) }
 {

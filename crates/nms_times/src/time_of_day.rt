@@ -29,7 +29,7 @@ impl Model for TimeOfDay {
 }
 
 impl TimeOfDay {
-    /// The time of such a number; `None` if its hours, minutes or seconds are out of range.
+    /// The time of day of a number HHMMSSnnnnnnnnn. It is `None` if the hours, minutes or seconds are out of range.
     pub fn new(digits: u64) -> Option<Self>
         ensures { SomeIff result (is_clock digits ≡ true) digits }
     {
@@ -48,7 +48,7 @@ impl TimeOfDay {
         self.digits
     }
 
-    /// Reads six digits HHMMSS, and up to nine after them. Any other text is `None`.
+    /// Reads a time of day: six digits HHMMSS, and up to nine digits of a fraction of a second. Any other text gives `None`.
     pub fn parse(text: &[u8]) -> Option<Self>
         ensures { result ≡ time_reading text.now }
     {
@@ -58,7 +58,7 @@ impl TimeOfDay {
         }
     }
 
-    /// The time n nanoseconds before it, on the same day: midnight at the earliest.
+    /// The number of nanoseconds from midnight to this time.
     pub fn since_midnight(self) -> u64
         ensures nanoseconds { result ≡ since_midnight self }
         ensures high { result < 86400000000000 }
@@ -69,7 +69,7 @@ impl TimeOfDay {
         hours * 3_600_000_000_000 + minutes * 60_000_000_000 + seconds * 1_000_000_000 + nanos
     }
 
-    /// The time n nanoseconds before it, of the same day: midnight at the earliest.
+    /// The time n nanoseconds before this time, on the same day: midnight at the earliest.
     pub fn earlier_by(self, nanoseconds: u64) -> Self
         ensures { result ≡ earlier_by nanoseconds self }
     {
@@ -81,7 +81,7 @@ impl TimeOfDay {
         }
     }
 
-    /// The time n nanoseconds after it, on the same day: the day's last nanosecond at the latest.
+    /// The time n nanoseconds after this time, on the same day: the day's last nanosecond at the latest.
     pub fn later_by(self, nanoseconds: u64) -> Self
         ensures { result ≡ later_by nanoseconds self }
     {
@@ -93,7 +93,7 @@ impl TimeOfDay {
         }
     }
 
-    /// Its 15 digits, HHMMSSnnnnnnnnn.
+    /// The 15 digits of the time, HHMMSSnnnnnnnnn.
     pub fn text(self) -> [u8; 15]
         ensures { result ≡ time_text self }
     {
@@ -140,7 +140,7 @@ fn clock_at(nanoseconds: u64) -> TimeOfDay
     }
 }
 
-/// Six digits and up to nine after them as one number of 15.
+/// The number HHMMSSnnnnnnnnn of a text with six digits, and up to nine digits of a fraction of a second.
 fn clock_in(text: &[u8]) -> Option<u64>
     ensures { result ≡ clock_number text.now }
 {
@@ -152,7 +152,7 @@ fn clock_in(text: &[u8]) -> Option<u64>
     Some(second + after)
 }
 
-/// The digits HHMMSS before nine others.
+/// The number HHMMSS000000000 of a text with the six digits HHMMSS.
 fn seconds(text: &[u8]) -> Option<u64>
     ensures seconds { result ≡ seconds text.now }
     ensures high { IfSome result (λ n. n < 1000000000000000) }
@@ -161,7 +161,7 @@ fn seconds(text: &[u8]) -> Option<u64>
     Some(number * 1_000_000_000)
 }
 
-/// The digits after the second, as nanoseconds.
+/// The nanoseconds that up to nine digits of a fraction of a second give. A missing digit counts as 0.
 fn nanoseconds(text: &[u8]) -> Option<u64>
     ensures nanoseconds { result ≡ nanoseconds text.now }
     ensures high { IfSome result (λ n. n < 1000000000000000000) }
@@ -173,7 +173,7 @@ fn nanoseconds(text: &[u8]) -> Option<u64>
     Some(number * 10u64.pow(9 - text.len() as u32))
 }
 
-/// Whether the hours are below 24, and the minutes and the seconds below 60.
+/// Whether a number HHMMSSnnnnnnnnn is a time: hours below 24, minutes and seconds below 60.
 fn is_clock(time: u64) -> bool
     ensures { result ≡ is_clock time }
 {
@@ -182,7 +182,7 @@ fn is_clock(time: u64) -> bool
         && time / 1_000_000_000 % 100 < 60
 }
 
-/// The digit of a number at the place of a unit.
+/// The character for one decimal digit of a number: 10 as the unit gives the digit of the tens.
 fn digit(number: u64, unit: u64) -> u8
     requires { 0 < unit }
     ensures { result ≡ digit_at unit number }

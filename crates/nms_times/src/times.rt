@@ -10,8 +10,8 @@ use crate::time_of_day::TimeOfDay;
 use crate::times_fault::TimesFault;
 use std::marker::Model;
 
-/// The times of the changes of a tape, in order: one for each change. They may fall, for example between the symbols of a file
-/// sorted by symbol.
+/// The times of the changes of a tape, one for each change, in the order of the tape. A time may be before the previous one, for
+/// example between the symbols of a file sorted by symbol.
 #[derive(Drop)]
 pub struct Times {
     all: Vec<TimeOfDay>,
@@ -26,21 +26,21 @@ impl Model for Times {
 }
 
 impl Times {
-    /// The times of a list.
+    /// Makes the times of a tape from a list that has a time for each change.
     pub(crate) fn of(all: Vec<TimeOfDay>) -> Self
         ensures { result ≡ all.items }
     {
         Times { all }
     }
 
-    /// The number of times, which is the version after the last change.
+    /// The number of times, which is also the number of the last version.
     pub fn len(&self) -> usize
         ensures { result ≡ length self.now }
     {
         self.all.len()
     }
 
-    /// `OtherLength` if the number of times is not that of the changes.
+    /// Returns `OtherLength` if the number of times differs from the number of changes.
     pub fn check_len(&self, changes: usize) -> Result<(), TimesFault>
         ensures same { IfOk result (λ _. length self.now ≡ changes) }
         ensures other { IfErr result (λ fault. (fault ≡ OtherLength) × (length self.now ≢ changes)) }
@@ -52,7 +52,7 @@ impl Times {
         }
     }
 
-    /// The time of a version, which is that of its last change. Version 0 and versions past the times have none.
+    /// The time of a version, which is the time of its last change. Version 0 and versions after the last one have no time.
     pub fn time_of(&self, version: u64) -> Option<TimeOfDay>
         ensures { result ≡ time_of self.now version }
     {
@@ -62,7 +62,7 @@ impl Times {
         Some(self.all[version as usize - 1])
     }
 
-    /// All times, by which versions are found. `TimesFall` if one is before the one above it.
+    /// The times of all changes, by which versions are found. `TimesFall` names the first time that is before the previous one.
     pub fn rising(&self) -> Result<Rising<'_>, TimesFault>
         ensures same { IfOk result (λ rising. (rising.before ≡ 0) × (rising.times.now ≡ self.now)) }
         ensures falls { IfErr result (IsFall self.now 0) }
@@ -70,8 +70,8 @@ impl Times {
         rising_after(0, &self.all)
     }
 
-    /// The times of the changes after one version up to another, for example of one symbol. `TimesFall` if one is before the
-    /// one above it.
+    /// The times of the changes after one version up to another, for example those of one symbol. `TimesFall` names the first
+    /// time that is before the previous one.
     pub fn rising_between(&self, before: usize, last: usize) -> Result<Rising<'_>, TimesFault>
         requires order { before ≤ last }
         requires within { last ≤ length self.now }
@@ -82,7 +82,7 @@ impl Times {
     }
 }
 
-/// These times of the changes after a version, if none is before the one above it.
+/// Prepares the times of the changes after a version for a search by time. It fails if a time is before the previous one.
 fn rising_after(before: usize, times: &[TimeOfDay]) -> Result<Rising<'_>, TimesFault>
     requires { before + length times.now < 2 ^ 64 }
     ensures same { IfOk result (λ rising. (rising.before ≡ before) × (rising.times.now ≡ times.now)) }

@@ -9,15 +9,15 @@ use thiserror::Error;
 /// Why times were not read, or no version was found.
 #[derive(Clone, Copy, Debug, PartialEq, Eq, Error)]
 pub enum TimesFault {
-    /// H1: this line, counted from 1, is the first that is not a time: 15 digits of a time of day and a line feed, or these
-    /// with a comma and 15 digits between. Or its length is not that of the first line.
+    /// H1: a line is malformed. It is not 15 digits of a time of day and a line feed, nor these with a comma and 15 digits
+    /// between. Or its length differs from that of the first line. The number of the first such line is given, counted from 1.
     NotTime { line: u64 },
-    /// H2: the time of this line, counted from 1, is the first that is before that of the line above it.
+    /// H2: a time is before the time in the previous line. The number of the first such line is given, counted from 1.
     TimesFall { line: u64 },
-    /// H3: the number of lines is not that of the changes.
+    /// H3: the number of times differs from the number of changes.
     OtherLength,
-    /// H4: this line, counted from 1, is the first of the symbols that is malformed. A line is a name and two versions, of
-    /// which the first is not above the last.
+    /// H4: a line of the file of symbols is malformed. A line has a name and two versions, of which the first is not above the
+    /// last. The number of the first such line is given, counted from 1.
     NotSymbol { line: u64 },
     /// E4: out of memory.
     NoMemory,

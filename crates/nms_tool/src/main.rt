@@ -15,7 +15,7 @@ use std::sync::Wait;
 use std::thread::Threads;
 pub use tool_fault::ToolFault;
 
-/// How many bytes of the stack are taken at the start.
+/// How many bytes of the stack the program takes when it starts.
 const STACK: usize = 114_688;
 
 fn main(rt: HostRuntime) -> ExitCode {
@@ -27,9 +27,9 @@ fn main(rt: HostRuntime) -> ExitCode {
     ExitCode::from(status)
 }
 
-/// Takes the stack that a call needs while there is memory for it. Later it might not grow, and the system would end the
-/// program, before it could report that it is out of memory. The byte is 0 or 1. It is read so that the compiler keeps the
-/// array.
+/// Takes all the stack that the program will need, while there is memory for it. Later the stack might not grow. The system would
+/// then end the program before it could report that it is out of memory. The result is 0 or 1. It is read so that the compiler
+/// keeps the array.
 #[inline(never)]
 fn take_stack(count: usize) -> u8 {
     let mut room = [0u8; STACK];

@@ -42,8 +42,8 @@ where
     }
 }
 
-/// Reports a fault, and gives its exit status. If standard error does not take all of it, the status is the same. What it takes
-/// is only a prefix of the parser's text, or of the one line with the code.
+/// Reports a fault, and gives its exit status. The status is the same if standard error does not take the report completely. Then
+/// only the first bytes of the report are written.
 pub fn tell_fault<E: Write>(fault: &ToolFault, errors: &mut E) -> u8
     ensures status { result ≡ status_of fault.now }
     ensures told { AppendsPart (E.contents errors.old) (E.contents errors.new) (fault_text fault.now) }
@@ -67,7 +67,8 @@ fn write_fault<E: Write>(fault: &ToolFault, errors: &mut E) -> io::Result<()>
     }
 }
 
-/// Does what the arguments ask for. Everything but a live run is done by `serve_words`.
+/// Does what the arguments ask for, and returns how it ended. A live run is made here, and `nms_command` serves all other
+/// requests.
 fn serve<T, R: Read, W: Write>(
     rt: &T,
     words: &[&str],

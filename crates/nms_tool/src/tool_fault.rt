@@ -41,7 +41,7 @@ impl ToolFault {
         }
     }
 
-    /// The code for the line on standard error.
+    /// The code of the fault, as the line on standard error shows it.
     pub fn code(&self) -> &'static str
         ensures { result.now ≡ code_of self.now }
     {

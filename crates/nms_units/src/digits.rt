@@ -29,7 +29,7 @@ pub fn digits_read_as_printed()
     ensures { (most n : ℕ) → 0 < most → n < 10 ^ most → n < 10 ^ 64 → number_in most (decimal n) ≡ Some n }
 {}
 
-/// The place of the first point.
+/// The place of the first point in a text, counted from 0.
 pub(crate) fn point_in(text: &[u8]) -> Option<usize>
     ensures place { result ≡ point_in text.now }
     ensures within { IfSome result (λ point. point < length text.now) }

@@ -94,7 +94,7 @@ fn cents_in(text: &[u8]) -> Option<u64>
     }
 }
 
-/// As `cents_in`, but for any text of the form.
+/// The number of 1/10,000 dollar that a text in a price's form gives, with any number of decimals that the form allows.
 #[cold]
 #[inline(never)]
 fn any_decimals_in(text: &[u8]) -> Option<u64>

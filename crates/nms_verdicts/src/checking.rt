@@ -22,7 +22,7 @@ use nms_times::Times;
 use std::alloc::Global;
 use std::io::{Read, Write};
 
-/// The table of verdicts.
+/// The columns of the table of verdicts, without times.
 static HEADINGS: [Heading; 14] = [
     Heading("plan", "plan", 6, true),
     Heading("line", "line", 8, true),
@@ -40,7 +40,7 @@ static HEADINGS: [Heading; 14] = [
     Heading("expected", "expected", 20, true),
 ];
 
-/// As `HEADINGS`, with the time of each plan's version.
+/// The columns of the table of verdicts, with the time of each plan's version.
 static TIMED_HEADINGS: [Heading; 15] = [
     Heading("plan", "plan", 6, true),
     Heading("line", "line", 8, true),
@@ -59,7 +59,7 @@ static TIMED_HEADINGS: [Heading; 15] = [
     Heading("expected", "expected", 20, true),
 ];
 
-/// The table of verdicts, with times if they are given.
+/// The columns of the table of verdicts. They include the time of each plan's version if times are given.
 fn headings_of(times: Option<&Times>) -> &'static [Heading] {
     match times {
         Some(_) => TIMED_HEADINGS.as_slice(),
@@ -67,7 +67,7 @@ fn headings_of(times: Option<&Times>) -> &'static [Heading] {
     }
 }
 
-/// The outcome for a plan.
+/// The outcome of judging a plan: it is confirmed, it is doubted, or its text cannot be read.
 #[derive(Clone, Copy)]
 pub(crate) enum Outcome {
     Confirmed,
@@ -84,14 +84,14 @@ pub(crate) struct Counts {
 }
 
 /// Judges every plan in the answers of a script or of a live run, each on its own version of the changes. Writes a table of
-/// verdicts and a line of totals, or an object a plan as JSON. The order is by version, within a version as in the file, and
-/// last those that can't be read.
+/// verdicts and a line of totals, or as JSON one object for each plan. Plans are sorted by version, and within a version they
+/// keep the order of the file. Plans that can't be read come last.
 ///
-/// If times are given, their number must be that of the changes, and each plan has that of its version.
+/// If times are given, their number must be the number of the changes. Each verdict then shows the time of the plan's version.
 ///
 /// All changes are read, and applied to the board once. The answers are searched for records `PLAN` to `END`, and all else is
-/// skipped. A text that is there instead of a plan is reported as L11. `Doubted` if a plan is doubted, else `Refused` if one
-/// can't be read, else `Done`. Nothing is flushed.
+/// skipped. A text in the place of a plan that is no plan is reported as L11. The ending is `Doubted` if a plan is doubted.
+/// Otherwise it is `Refused` if a plan can't be read, and else `Done`. The output is not flushed.
 pub fn check_answers<R: Read + Drop, W: Write>(
     alloc: Global,
     setup: &Setup,
@@ -134,7 +134,7 @@ fn check_text<W: Write>(
     }
 }
 
-/// Judges the plans of pieces, between the head of a table and a line of totals.
+/// Judges the plans whose texts were found, and writes the table of verdicts with its head and a line of totals.
 fn check_pieces<W: Write>(
     alloc: Global,
     tape: &Tape<'_>,
@@ -153,7 +153,7 @@ fn check_pieces<W: Write>(
     Ok(ending_of(counts))
 }
 
-/// Judges the plans of pieces, and returns how many had each outcome.
+/// Judges the plans whose texts were found, and returns the number of plans with each outcome.
 fn check_each<W: Write>(
     alloc: Global,
     replay: &mut Replay<'_>,
@@ -197,7 +197,7 @@ fn counted(counts: Counts, outcome: Outcome) -> Counts
     counts
 }
 
-/// How a request ends that judged n plans.
+/// The ending of a request that judged plans: doubted if a plan is doubted, refused if a plan can't be read, else done.
 fn ending_of(counts: Counts) -> Ending
     ensures { result ≡ ending_by counts }
 {
@@ -315,7 +315,7 @@ fn write_unreadable<W: Write>(
     )
 }
 
-/// Writes how many plans had which verdict.
+/// Writes the number of plans, and how many of them are confirmed, doubted and unreadable.
 fn write_totals<W: Write>(
     alloc: Global,
     answers: &mut W,

@@ -12,10 +12,10 @@ use nms_units::{MOST_SHARES, Money};
 use std::alloc::Global;
 use std::io::Write;
 
-/// The most that a marginal may be, in nanodollars. The least is its negative.
+/// The largest marginal of a cut, in nanodollars a share. The smallest is its negative.
 const MOST_MARGINAL: i128 = 1_000_000_000_000_000_000;
 
-/// Reports the claim of each cut, if n shares can be filled.
+/// Reports the claim of each cut of a certificate. The order can fill `most` shares.
 pub(crate) fn tell_cuts<W: Write>(
     alloc: Global,
     answers: &mut W,
@@ -36,8 +36,8 @@ pub(crate) fn tell_cuts<W: Write>(
     Ok(())
 }
 
-/// Reports what one cut claims about the rows that the order may trade with at its price. Beyond the limit it also counts the
-/// protected ones at better prices, which would have to be swept there.
+/// Reports a cut's claim about the quotations at its price or better that the order may trade with. For a cut beyond the limit,
+/// protected quotations at better prices also count, because they would have to be swept.
 fn tell_reached<W: Write>(
     alloc: Global,
     answers: &mut W,
@@ -71,7 +71,7 @@ fn tell_reached<W: Write>(
     )
 }
 
-/// Reports what one cut claims: the sums at its price, and the least cost of a plan with that worst price by its marginal.
+/// Reports a cut's claim: the shares to be swept or taken at its price, and the least cost that its marginal implies.
 fn tell_cut<W: Write>(
     alloc: Global,
     answers: &mut W,
@@ -118,8 +118,8 @@ fn tell_cut<W: Write>(
     )
 }
 
-/// The least cost of a plan with this worst price by a cut's marginal. There is one if the marginal is in its range, and the
-/// shares to be swept are no more than can be filled.
+/// The least cost that a cut's marginal implies for a plan with the cut's price as its worst price. It is absent if the marginal
+/// is out of range, or if more shares must be swept than can be filled.
 fn bound_of(rows: &[UsableRow], most: u64, cutoff: Rank, kind: CutKind) -> Option<Money>
     requires rows { length rows.now ≤ MOST_ROWS }
     requires most { most ≤ MOST_SHARES }
@@ -136,7 +136,7 @@ fn bound_of(rows: &[UsableRow], most: u64, cutoff: Rank, kind: CutKind) -> Optio
     }
 }
 
-/// A bound, if there is one.
+/// A least cost as an item of a report, which is absent if the cut has none.
 fn bound_item(bound: Option<Money>) -> Item<'static> {
     match bound {
         Some(bound) => Item::of_money(bound),
@@ -153,7 +153,7 @@ fn kind_of(kind: CutKind) -> Item<'static> {
     }
 }
 
-/// The words for what follows from a cut that holds, or that does not, with its bound if it has one.
+/// The sentence that says what follows from a cut, or that its claim does not hold.
 fn words_of(kind: CutKind, holds: bool, has_bound: bool) -> &'static str {
     match (kind, holds, has_bound) {
         (CutKind::TooMuch, true, _) => {

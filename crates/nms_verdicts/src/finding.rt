@@ -8,29 +8,29 @@ use nms_show::Item;
 /// The place of a doubt, what was found there, what was expected, and the lines about it.
 #[derive(Clone, Copy)]
 pub(crate) struct Finding<'a> {
-    /// The line that names the leg or the cut.
+    /// The line that names the doubtful leg or cut. It is empty for a doubt about the complete plan.
     pub(crate) place: &'static str,
-    /// The line about what is doubtful there.
+    /// The line that says what is doubtful at that leg or cut.
     pub(crate) words: &'static str,
-    /// The leg, counted from 1.
+    /// The number of the doubtful leg, counted from 1.
     pub(crate) leg: Item<'static>,
-    /// The cut, counted from 1.
+    /// The number of the doubtful cut, counted from 1.
     pub(crate) cut: Item<'static>,
-    /// The shares of the leg.
+    /// The number of shares of the doubtful leg.
     pub(crate) sent: Item<'static>,
     /// The participant to which the leg goes.
     pub(crate) participant: Item<'a>,
-    /// The price of the leg or of the cut.
+    /// The price of the doubtful leg or cut.
     pub(crate) price: Item<'static>,
-    /// What was found.
+    /// The value that was found, such as a price, a number of shares or a cost.
     pub(crate) found: Item<'static>,
-    /// What was expected.
+    /// The value that was expected in place of the found one.
     pub(crate) expected: Item<'static>,
-    /// The other leg or cut, or the participant, that the words name.
+    /// A second leg, cut or participant that the line about the doubt names.
     pub(crate) other: Item<'a>,
 }
 
-/// The finding of a verdict on a plan.
+/// What the verdict on a plan reports: the place of its doubt, the found value and the expected value.
 pub(crate) fn finding_of<'a>(verdict: &Verdict, roster: &'a Roster, plan: &Plan) -> Finding<'a> {
     match verdict {
         Verdict::Confirmed => of_plan("", Item::Absent, Item::Absent),
@@ -43,7 +43,7 @@ pub(crate) fn finding_of<'a>(verdict: &Verdict, roster: &'a Roster, plan: &Plan)
     }
 }
 
-/// The finding at the place of a doubt.
+/// Describes a doubt about a plan or its certificate: its place, the found value and the expected value.
 fn of_doubt<'a>(place: &DoubtPlace, roster: &'a Roster, order: &Order) -> Finding<'a> {
     match place {
         DoubtPlace::Breach(place) => of_breach(place, roster, order),
@@ -91,7 +91,7 @@ fn of_doubt<'a>(place: &DoubtPlace, roster: &'a Roster, order: &Order) -> Findin
     }
 }
 
-/// The finding about a cut that contradicts the sums at its price.
+/// Describes a cut whose claim contradicts the shares to be swept or taken at its price.
 fn of_kind(cut: &CutPlace, sums: &CutSums) -> Finding<'static> {
     let (words, found) = match cut.cut.kind {
         CutKind::TooMuch => (
@@ -110,7 +110,7 @@ fn of_kind(cut: &CutPlace, sums: &CutSums) -> Finding<'static> {
     of_cut(cut, words, found, Item::Number(sums.most))
 }
 
-/// The number of shares that have to be swept or may be taken.
+/// The number of shares that have to be swept or may be taken at a cut's price. It is absent if it exceeds 2^64 - 1.
 fn reached_by(sums: &CutSums) -> Item<'static> {
     match sums.swept.checked_add(sums.pool) {
         Some(shares) => Item::Number(shares),
@@ -118,7 +118,7 @@ fn reached_by(sums: &CutSums) -> Item<'static> {
     }
 }
 
-/// The finding at the place of a breach.
+/// Describes a breach of a rule by a plan: its place, the found value and the expected value.
 fn of_breach<'a>(place: &BreachPlace, roster: &'a Roster, order: &Order) -> Finding<'a> {
     match place {
         BreachPlace::OtherVersion { found, expected } => of_plan(
@@ -258,7 +258,7 @@ fn number_of(place: u8) -> Item<'static> {
     Item::Number(u64::from(place) + 1)
 }
 
-/// A finding about the plan as such.
+/// Describes a doubt about the complete plan, without a leg or a cut.
 fn of_plan(words: &'static str, found: Item<'static>, expected: Item<'static>) -> Finding<'static> {
     Finding {
         place: "",
@@ -274,7 +274,7 @@ fn of_plan(words: &'static str, found: Item<'static>, expected: Item<'static>) -
     }
 }
 
-/// A finding about a leg.
+/// Describes a doubt about a leg of the plan.
 fn of_leg<'a>(
     roster: &'a Roster,
     place: &LegPlace,
@@ -296,7 +296,7 @@ fn of_leg<'a>(
     }
 }
 
-/// A finding about a cut.
+/// Describes a doubt about a cut of the certificate.
 fn of_cut(
     place: &CutPlace,
     words: &'static str,
@@ -317,7 +317,7 @@ fn of_cut(
     }
 }
 
-/// The same finding, whose words also name another leg or cut, or a participant.
+/// Adds a second leg, cut or participant to the description of a doubt.
 fn with_other<'a>(finding: Finding<'a>, other: Item<'a>) -> Finding<'a> {
     Finding { other, ..finding }
 }

@@ -11,8 +11,8 @@ use nms_fees::FeeBook;
 use nms_quote::{Certificate, Plan};
 use nms_stream::Replay;
 
-/// Judges a plan on the version that it names, to which the board has moved, as `audit` of `nms_file_answers` does. Returns the
-/// place of its doubt too.
+/// Judges a plan on the version that it names, after the board has moved to that version. The verdict includes the place of a
+/// doubt.
 pub(crate) fn judge(replay: &mut Replay<'_>, plan: &Plan, certificate: &Certificate) -> Verdict
     ensures tape { replay.new.tape ≡ replay.old.tape }
     ensures moved { is_beyond result ≡ false → replay.new.board.applied ≡ plan.now.version }
@@ -27,7 +27,7 @@ pub(crate) fn judge(replay: &mut Replay<'_>, plan: &Plan, certificate: &Certific
     judge_on(replay.tape.setup.fees(), &view, plan, certificate)
 }
 
-/// Judges a plan on a view.
+/// Judges a plan on the quotations of one version, and finds the place of a doubt.
 fn judge_on(fees: &FeeBook, view: &View, plan: &Plan, certificate: &Certificate) -> Verdict
     ensures { IsVerdictOn view.now fees.now plan.now certificate.now.items result }
 {

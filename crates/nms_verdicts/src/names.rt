@@ -37,7 +37,7 @@ pub(crate) fn quotation_of(side: OrderSide) -> Item<'static> {
     }
 }
 
-/// A code, or nothing.
+/// A code as an item of a report, which is absent if there is no code.
 pub(crate) fn code_item(code: Option<&'static str>) -> Item<'static> {
     match code {
         Some(code) => Item::Text(code),
@@ -45,7 +45,8 @@ pub(crate) fn code_item(code: Option<&'static str>) -> Item<'static> {
     }
 }
 
-/// Appends the names of the participants that an order names under self-help, by place, with a `+` between two.
+/// Appends the names of the participants against which an order declares self-help. They are sorted by participant, with a `+`
+/// between two names.
 pub(crate) fn push_named(
     names: &mut Vec<u8>,
     roster: &Roster,

@@ -32,38 +32,38 @@ pub(crate) enum Kind {
 /// The text of a plan, or the text that is there instead of one.
 #[derive(Clone, Copy)]
 pub(crate) struct Piece<'a> {
-    /// The bytes from the record that begins it to the one that ends it.
+    /// The bytes from the first record of the plan to its last record.
     pub(crate) text: &'a [u8],
     /// The number of the plan among the answers, counted from 1.
     pub(crate) plan: u64,
-    /// Its first line, counted from 1.
+    /// The line at which the plan begins, counted from 1.
     pub(crate) line: u64,
-    /// The version that it names. If it can't be read, it is a number above all versions.
+    /// The version that the plan names. It is 2^64 - 1, above all versions, if the text can't be read.
     pub(crate) version: u64,
 }
 
-/// The beginning of a piece that has not ended.
+/// The beginning of a plan's text whose end is not yet found.
 #[derive(Clone, Copy)]
 pub(crate) struct Begun {
-    /// Its place in the text.
+    /// The byte of the answers at which the plan's text begins, counted from 0.
     start: usize,
-    /// Its first line.
+    /// The line at which the plan's text begins, counted from 1.
     line: u64,
 }
 
 /// The place of a line in a text.
 #[derive(Clone, Copy)]
 struct Place {
-    /// The byte at which it begins.
+    /// The byte at which the line begins, counted from 0.
     start: usize,
-    /// The byte at which it ends.
+    /// The byte after the line, including its line end.
     end: usize,
-    /// Its number, counted from 1.
+    /// The number of the line, counted from 1.
     line: u64,
 }
 
-/// The pieces of a text of answers, by version, and within a version as in the text. A record of a plan without the record that
-/// begins a plan also gives a piece, so that no plan is missed.
+/// Finds the texts of plans in a text of answers, sorted by version, and within a version in the order of the text. A plan whose
+/// first record is missing also gives a text, so that no plan is missed.
 pub(crate) fn pieces_of<'a>(
     alloc: Global,
     roster: &Roster,
@@ -83,7 +83,7 @@ pub(crate) fn pieces_of<'a>(
     Ok(pieces)
 }
 
-/// A text without the mark of the byte order at its start.
+/// A text without the byte order mark (BOM) at its start.
 fn without_mark(text: &[u8]) -> &[u8]
     ensures { result.now ≡ strip_bom text.now }
 {
@@ -93,7 +93,7 @@ fn without_mark(text: &[u8]) -> &[u8]
     }
 }
 
-/// Appends the pieces of a text.
+/// Appends the texts of plans that a text of answers contains.
 fn push_pieces<'a>(
     pieces: &mut Vec<Piece<'a>>,
     alloc: Global,
@@ -108,7 +108,7 @@ fn push_pieces<'a>(
     let mut line: u64 = 0;
     while start < text.len() {
         let end = start + line_length(&text[start..]);
-        // The count is never too great, because each line has at least one byte.
+        // The count of lines cannot overflow, because each line has at least one byte.
         line += 1;
         let place = Place { start, end, line };
         let kind = kind_of(alloc, &text[start..end])?;
@@ -119,8 +119,8 @@ fn push_pieces<'a>(
     Ok(())
 }
 
-/// Appends the piece that ends before a line or with it. Returns the piece that has begun then. A piece begins at a record of a
-/// plan.
+/// Appends the plan's text that ends before or with the given line, if one ends there. Returns the beginning of the text that is
+/// open after that line.
 fn push_line<'a>(
     pieces: &mut Vec<Piece<'a>>,
     alloc: Global,
@@ -161,7 +161,7 @@ fn push_line<'a>(
     }
 }
 
-/// The piece that has begun; if none has, one that begins with a line.
+/// The beginning of the plan's text that is open, or of a new one that begins with the given line.
 fn opened(begun: Option<Begun>, place: Place) -> Begun
     ensures { result.start ≡ start_of place.start begun }
 {
@@ -174,7 +174,7 @@ fn opened(begun: Option<Begun>, place: Place) -> Begun
     }
 }
 
-/// Appends the piece that has begun and ends there, if one has.
+/// Appends the plan's text that is open, if there is one, as a text that ends at the given byte.
 fn push_piece<'a>(
     pieces: &mut Vec<Piece<'a>>,
     alloc: Global,
@@ -203,7 +203,7 @@ fn push_piece<'a>(
     Ok(())
 }
 
-/// The version that the text of a plan names. If it can't be read, it is a number above all versions.
+/// The version that the text of a plan names. It is 2^64 - 1, above all versions, if the text can't be read.
 fn version_of(alloc: Global, roster: &Roster, text: &[u8]) -> u64 {
     match read_plan(alloc, text, roster) {
         Ok((plan, _)) => plan.version,
@@ -211,7 +211,7 @@ fn version_of(alloc: Global, roster: &Roster, text: &[u8]) -> u64 {
     }
 }
 
-/// How many bytes the first line of a text takes, with its end.
+/// The number of bytes in the first line of a text, including its line end.
 fn line_length(text: &[u8]) -> usize
     requires { 0 < length text.now }
     ensures some { 0 < result }
@@ -224,7 +224,7 @@ fn line_length(text: &[u8]) -> usize
     }
 }
 
-/// How many bytes the end of a line takes at the beginning of a text.
+/// The number of bytes in the line end at the start of a text: 2 for CR LF, else 1.
 fn end_length(text: &[u8]) -> usize
     requires { IsEnd text.now }
     ensures some { 0 < result }
@@ -237,8 +237,8 @@ fn end_length(text: &[u8]) -> usize
     }
 }
 
-/// The kind of a line, by its first field. If that is in quotes, it is what the reader of records reads. A record of a plan
-/// takes one line, because none of its fields may have a line end.
+/// The kind of a line, by its first field. A field in quotes is read as the reader of records reads it. A record of a plan takes
+/// one line, because none of its fields may have a line end.
 fn kind_of(alloc: Global, line: &[u8]) -> Result<Kind, AllocError>
     ensures { IfOk result (IsKind line.now) }
 {
@@ -295,12 +295,12 @@ fn kind_of_quoted(alloc: Global, line: &[u8]) -> Result<Kind, AllocError>
     match read_next(&mut reader, &mut row) {
         Ok(true) => Ok(kind_of_word(trimmed(field_at(&row, 0)))),
         Ok(false) => Ok(Kind::Other),
-        // The bytes can be read, so the reason is out of memory.
+        // Bytes in memory can always be read, so this fault can only be a lack of memory.
         Err(_) => Err(AllocError),
     }
 }
 
-/// The kind of a line that begins with a word.
+/// The kind of a line, by the word in its first field.
 fn kind_of_word(word: &[u8]) -> Kind
     ensures { result ≡ kind_of_word word.now }
 {

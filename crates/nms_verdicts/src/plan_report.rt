@@ -25,11 +25,11 @@ use std::str;
 pub struct Quotation {
     /// The quotation.
     pub row: Row,
-    /// The shares that the plan sends there.
+    /// The number of shares that the plan sends to this quotation.
     pub sent: u64,
-    /// Whether the plan trades at worse prices and does not sweep it, although it is protected.
+    /// Whether the plan trades through this quotation: it is protected and not swept, but the plan trades at worse prices.
     pub is_over: bool,
-    /// What the plan does with it.
+    /// What the plan does with this quotation.
     pub note: Note,
 }
 
@@ -38,23 +38,24 @@ pub struct Quotation {
 pub struct Said {
     /// `Done` if the plan is confirmed, else `Doubted`.
     pub ending: Ending,
-    /// Whether the plan's version has more changes than there are.
+    /// Whether the plan names a version that is beyond the end of the changes.
     pub is_beyond: bool,
-    /// The word of its verdict, with the codes of what is doubtful.
+    /// The verdict in a word, `CONFIRMED` or `DOUBT`, with the codes of the doubt.
     pub verdict: Vec<u8>,
-    /// The lines about its order and about the shares that it fills.
+    /// The lines about the plan's order, and about the shares that the plan fills.
     pub order: Vec<u8>,
     /// The lines about what is doubtful.
     pub doubt: Vec<u8>,
     /// The lines about the most shares that can be filled, and about each cut of its certificate.
     pub certificate: Vec<u8>,
-    /// The quotations, in rank order; none if the changes do not have its version.
+    /// The quotations in rank order. There are none if the changes do not have the plan's version.
     pub quotations: Vec<Quotation>,
 }
 
-/// Judges a plan on the version that it names, as `explain_why` does, and makes the same remarks. The lines call it by `file`.
+/// Judges a plan on the version that it names, and makes the remarks of the subcommand `why`. The remarks call the plan by the
+/// name in `file`.
 ///
-/// The only faults are that no board was made, or out of memory.
+/// The only faults are that no board could be made, or that memory ran out.
 pub fn report_plan(
     alloc: Global,
     tape: &Tape<'_>,
@@ -85,7 +86,7 @@ pub fn report_plan(
         &verdict,
     ) {
         Ok(said) => Ok(said),
-        // This is out of memory, because a list of bytes takes everything that is written.
+        // A list of bytes accepts every write, so this fault can only be a lack of memory.
         Err(_) => Err(BoardFault::NoMemory),
     }
 }
@@ -199,8 +200,8 @@ pub(crate) fn tell_said<W: Write>(
     tell_lines(alloc, answers, form, "certificate", &said.certificate)
 }
 
-/// Reports the lines of a text, without the spaces at their beginning. They already have their escapes, so they count as texts
-/// of the program, which are neither escaped again nor cut.
+/// Reports each line of a text as an object, without the spaces at its beginning. The lines were escaped before, so they are
+/// neither escaped again nor cut.
 fn tell_lines<'x, W: Write>(
     alloc: Global,
     answers: &mut W,
@@ -262,7 +263,7 @@ fn add_quotations(
     Ok(())
 }
 
-/// What a plan does with a quotation.
+/// A quotation with the shares that a plan sends to it, and what the plan does with it.
 fn quotation_of(plan: &Plan, verdict: &Verdict, row: &Row) -> Quotation
     ensures { result.row ≡ row.now }
 {

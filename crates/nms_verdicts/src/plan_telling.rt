@@ -10,14 +10,14 @@ use nms_times::Times;
 use std::alloc::{AllocError, Global};
 use std::io::Write;
 
-/// The file of a plan, its number there, and the line at which it begins.
+/// The place of a plan in a file of answers, and the times by which its version is dated.
 #[derive(Clone, Copy)]
 pub(crate) struct PlanNumber<'a> {
-    /// The file.
+    /// The name of the file that has the plan.
     pub(crate) file: &'a str,
-    /// Its number in the file, counted from 1.
+    /// The number of the plan in the file, counted from 1.
     pub(crate) plan: u64,
-    /// Its first line, counted from 1.
+    /// The line of the file at which the plan begins, counted from 1.
     pub(crate) line: u64,
     /// The times of the changes, if they are given.
     pub(crate) times: Option<&'a Times>,
@@ -28,13 +28,13 @@ pub(crate) struct PlanNumber<'a> {
 pub(crate) enum Part {
     /// All lines.
     Whole,
-    /// The lines about its order, and how much it fills.
+    /// The lines about the plan's order, and about how much the plan fills.
     Order,
     /// The lines about what is doubtful.
     Doubt,
 }
 
-/// Reports a plan and its verdict. With headings it is a row with the doubt, without headings it is sentences.
+/// Reports a plan and its verdict. For a table it writes a row with the doubt, and otherwise sentences.
 pub(crate) fn tell_plan<W: Write>(
     alloc: Global,
     answers: &mut W,
@@ -86,7 +86,8 @@ pub(crate) fn tell_part<W: Write>(
     }
 }
 
-/// As `tell_part`, but without the quotations that are traded through, and with the names and the time given.
+/// Reports some of the lines about a plan and its verdict, but not the quotations that are traded through. The caller gives the
+/// self-help names and the time as text.
 fn tell_named<'x, W: Write>(
     alloc: Global,
     answers: &mut W,
@@ -120,7 +121,7 @@ fn tell_named<'x, W: Write>(
         Part::Order => (0, 4),
         Part::Doubt => (5, 7),
     };
-    // Without times there is no key for a time.
+    // A plan without times has no time to report, so the last of the 26 facts, the time, is left out.
     let known = if number.times.is_some() { 26 } else { 25 };
     tell(
         alloc,
@@ -143,7 +144,7 @@ fn push_time(out: &mut Vec<u8>, times: Option<&Times>, version: u64) -> Result<(
     }
 }
 
-/// A time as digits; nothing if there are none.
+/// A time of day as an item of a report, which is absent if there are no digits.
 fn time_item(digits: &[u8]) -> Item<'_> {
     if digits.is_empty() {
         Item::Absent

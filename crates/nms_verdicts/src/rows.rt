@@ -12,7 +12,7 @@ use nms_units::Price;
 use std::alloc::Global;
 use std::io::Write;
 
-/// The table of quotations.
+/// The columns of the table of quotations.
 const HEADINGS: [Heading; 7] = [
     Heading("from", "participant", 6, false),
     Heading("price", "price", 12, true),
@@ -98,26 +98,26 @@ pub(crate) fn sent_to(legs: &[Leg], part: Part) -> u64
 /// What a plan does with a quotation.
 #[derive(Clone, Copy)]
 pub enum Note {
-    /// It has to be swept, and is swept.
+    /// The quotation has to be swept, and the plan sweeps it.
     Swept,
-    /// It has to be swept, but is not.
+    /// The quotation has to be swept, but the plan does not sweep it.
     NotSwept,
-    /// All of it is taken.
+    /// The plan takes all shares of the quotation.
     TakenInFull,
-    /// Some of it is taken.
+    /// The plan takes some shares of the quotation.
     TakenInPart,
-    /// Nothing of it is taken.
+    /// The plan takes no share of the quotation.
     Left,
-    /// The order may not trade with it, because its price is beyond the limit.
+    /// The order may not trade with the quotation, because its price is beyond the limit.
     BeyondLimit,
-    /// The order may not trade with it, because self-help was declared.
+    /// The order declares self-help against the participant, so it may not trade with the quotation.
     SelfHelp,
-    /// The order may not trade with it, because it is manual.
+    /// The order may not trade with the quotation, because it is manual.
     Manual,
 }
 
 impl Note {
-    /// The words for the note.
+    /// The words by which a report shows what the plan does with the quotation.
     pub fn words(self) -> &'static str {
         match self {
             Note::Swept => "must be swept, and is",
@@ -132,7 +132,7 @@ impl Note {
     }
 }
 
-/// The note on a quotation to which a plan sends n shares.
+/// Says what a plan does with a quotation, if it sends the given number of shares to that participant.
 pub(crate) fn note_of(plan: &Plan, row: &Row, sent: u64) -> Note {
     if !is_usable(&plan.order, row) {
         return why_unusable(plan, row);

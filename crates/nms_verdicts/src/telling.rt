@@ -6,7 +6,7 @@ use std::io::Write;
 /// The most columns that a table has.
 const MOST_COLUMNS: usize = 16;
 
-/// The most texts and values of a line.
+/// The most words and values in one line of a report.
 const MOST_ITEMS: usize = 24;
 
 /// A column: its heading, the key of the fact in it, its least number of characters, and whether the fact is at the column's
@@ -19,7 +19,8 @@ pub(crate) struct Heading(
     pub(crate) bool,
 );
 
-/// Reports a thing. It is an object with these facts, or their row under these headings, if there are any, and these lines.
+/// Reports a thing. As JSON it is one object with all facts. Otherwise it is a row under the given headings, if any, and lines of
+/// words.
 pub(crate) fn tell<'a, W: Write>(
     alloc: Global,
     answers: &mut W,
@@ -52,7 +53,8 @@ pub(crate) fn tell_head<W: Write>(
     tell_row(answers, form, headings, &[])
 }
 
-/// Writes the facts under headings, or the titles if there are no facts. After the last one the line ends.
+/// Writes the row of a table: the facts under the headings, or the titles if there are no facts. Empty columns at its end are
+/// left out.
 fn tell_row<W: Write>(
     answers: &mut W,
     form: Form,
@@ -92,8 +94,8 @@ fn column_of<'a>(heading: Heading, facts: &[(&str, Item<'a>)]) -> Column<'a> {
     Column { item, width, right }
 }
 
-/// Writes a line of words. The value of a fact replaces its key between two bars. If there are no words, or among objects, it
-/// writes nothing.
+/// Writes a line of words, in which each key between two bars is replaced by its value. It writes nothing if there are no words,
+/// or as JSON.
 pub(crate) fn tell_line<'a, W: Write>(
     answers: &mut W,
     form: Form,

@@ -13,14 +13,14 @@ use nms_show::Ending;
 pub(crate) enum Verdict {
     /// The plan is lawful, no lawful plan fills more shares, and none fills as many for less.
     Confirmed,
-    /// A1: the plan's version has more changes than the file.
+    /// A1: the plan names a version that is beyond the end of the changes.
     Beyond {
-        /// How many changes there are.
+        /// The number of changes in the file.
         changes: u64,
     },
     /// K1 to K7: what is doubtful, and where.
     Doubted {
-        /// The doubt.
+        /// The kind of the doubt.
         doubt: Doubt,
         /// The place of the doubt.
         place: DoubtPlace,
@@ -28,7 +28,7 @@ pub(crate) enum Verdict {
 }
 
 impl Verdict {
-    /// The code of the doubt, or of a version beyond the file.
+    /// The code of the doubt (K1 to K7), or A1 for a version beyond the file. A confirmed plan has none.
     pub(crate) fn code(&self) -> Option<&'static str> {
         match self {
             Verdict::Confirmed => None,
@@ -54,7 +54,7 @@ impl Verdict {
         matches!(self, Verdict::Confirmed)
     }
 
-    /// Whether the plan's version has more changes than there are.
+    /// Whether the plan names a version that is beyond the end of the changes.
     pub(crate) fn is_beyond(&self) -> bool
         ensures { result ≡ is_beyond self.now }
     {

@@ -11,19 +11,19 @@ use nms_times::TimesFault;
 use std::fmt;
 use thiserror::Error;
 
-/// Why plans were not judged, or not all of them.
+/// The reason why no plan was judged, or why the judging of plans stopped early.
 #[derive(Clone, Copy, Debug, PartialEq, Eq, Error)]
 pub enum VerdictFault {
     /// The file of changes is no tape. Nothing was written.
     Changes(ChangesFault),
     /// H3: the number of times is not that of the changes. Nothing was written.
     Times(TimesFault),
-    /// B1: no memory for a board. What was written before stays.
+    /// B1: there was no memory for a board. Text that was already written remains.
     Board(BoardFault),
-    /// L11 or L12: the text is no plan, or there was no memory to read it. Among many plans, one that can't be read is reported
-    /// as such and is no fault.
+    /// L11 or L12: the text is no plan, or there was no memory to read it. In a file with many plans, a plan that can't be read
+    /// is reported in the answers, and is no fault.
     Plan(PlanTextFault),
-    /// E2 or E4: the output could not be written, or out of memory. A prefix of it may have been written.
+    /// E2 or E4: the output could not be written, or memory ran out. The first part of the output may have been written.
     Show(ShowFault),
 }
 

@@ -25,8 +25,8 @@ use std::io::{Read, Write};
 /// then the quotations in rank order with the cost of a share and the shares that are sent there. Then it shows how many shares
 /// can be filled, and each cut's bound next to the plan's cost.
 ///
-/// `Doubted` if the plan is doubted, else `Done`. A text that is no plan is a fault. If times are given, their number must be
-/// that of the changes, and the time of the plan's version is shown too. Nothing is flushed.
+/// The ending is `Doubted` if the plan is doubted, else `Done`. A text that is no plan is a fault. If times are given, their
+/// number must be the number of the changes, and the time of the plan's version is shown too. The output is not flushed.
 pub fn explain_why<R: Read + Drop, W: Write>(
     alloc: Global,
     setup: &Setup,
@@ -104,8 +104,8 @@ fn explain_plan<W: Write>(
     }
 }
 
-/// Reports a plan, its verdict and its legs, and the view of its version if the changes have it. Objects also have the lines
-/// that are written for people, so that a program need not read both forms.
+/// Reports a plan, its verdict and its legs, and the quotations of its version if the changes have it. JSON objects also have the
+/// lines for people, so that a program need not read both forms.
 fn tell_judged<W: Write>(
     alloc: Global,
     setup: &Setup,
@@ -155,7 +155,8 @@ fn tell_judged<W: Write>(
     tell_said(alloc, answers, form, &said)
 }
 
-/// Reports the quotations, the shares that can be filled, each cut, and what follows for a plan that is confirmed.
+/// Reports the quotations, the number of shares that can be filled, and each cut. A last sentence says why a confirmed plan is
+/// the cheapest.
 fn tell_seen<W: Write>(
     alloc: Global,
     setup: &Setup,
@@ -179,7 +180,7 @@ fn tell_seen<W: Write>(
     )
 }
 
-/// Reports the shares that can be filled, each cut, and what follows for a plan that is confirmed.
+/// Reports the number of shares that can be filled, and each cut. A last sentence says why a confirmed plan is the cheapest.
 pub(crate) fn tell_certificate<W: Write>(
     alloc: Global,
     setup: &Setup,

@@ -19,17 +19,18 @@ use nms_board::View;
 use nms_quote::Sym;
 use std::marker::Model;
 
-/// Looks at what is published, and never at a version older than one that it saw or learned of.
+/// A desk looks at what is published, and never at a version older than one that it saw or learned of.
 pub struct Desk {
-    /// The reader of the pair. A look takes it out and puts it back.
+    /// The desk's reader of the pair of boards. A look takes the reader out and puts it back.
     pub(crate) reader: Option<PairReader>,
     pub(crate) memory: Memory,
-    /// The longest version that it knows, and how many changes that has.
+    /// The longest version that the desk knows, and how many changes that version has.
     pub(crate) newest: Token,
     pub(crate) longest: u64,
 }
 
-/// It has its own `Drop`, so that a function that holds one has one call at each exit, and not one for each part (docs/GATE.md).
+/// A desk has its own `Drop`. So a function that holds a desk has one call at each exit, and not one for each part
+/// (docs/GATE.md).
 impl Drop for Desk {
     fn drop(self) {
         let Desk {
@@ -87,8 +88,8 @@ impl Desk {
         }
     }
 
-    /// Writes over a view what the published version shows for a symbol, as `look` gives it. So a desk that looks often copies no
-    /// view. `NoReading` leaves the desk as it was, and the view shows nothing.
+    /// Writes what the published version shows for a symbol over an earlier view. So a desk that looks often copies no view.
+    /// `NoReading` leaves the desk as it was, and the view shows nothing.
     pub fn look_into(&mut self, sym: Sym, view: &mut View) -> Result<(), NoReading>
         ensures shown { OnOk result ((version : Tape) × (view.new ≡ view_of self.old.sizes version sym)
             × AllBegin version self.old.known × (self.new ≡ record self.old { known = version ∷ self.old.known })) }
@@ -100,7 +101,7 @@ impl Desk {
     }
 
     /// Shows the published board to an onlooker. It waits for no thread and takes no memory, unless the onlooker does.
-    /// `NoReading` leaves both as they were.
+    /// `NoReading` leaves the desk and the onlooker as they were.
     pub fn look_with<O: Onlooker>(&mut self, onlooker: &mut O) -> Result<O::Sight, NoReading>
         ensures shown { IfOk result (λ sight. (board : Board) × (version : Tape) × IsShown self.old self.new board version
             × O.Sees onlooker.old board onlooker.new sight) }

@@ -9,7 +9,7 @@ use std::marker::Model;
 use std::sync::Arc;
 
 /// The changes since the last publishing. Two buffers take turns. The pair of boards has the buffer of a publishing until the
-/// next publishing is done, because only then both boards have its changes.
+/// next publishing is done, because only then do both boards have its changes.
 #[derive(Drop)]
 pub struct Fresh {
     /// The changes appended since the last publishing. `None` if there is no buffer yet.
@@ -61,7 +61,7 @@ impl Fresh {
         is_put
     }
 
-    /// Lends the changes to the pair. `begin` has to follow, once the pair has them.
+    /// Lends the changes to the pair of boards. `begin` has to follow, once the pair has taken them.
     pub(crate) fn lend(&mut self) -> Arc<Vec<Change>>
         requires some { 0 < length self.old }
         ensures { items_of result ≡ self.old }
@@ -72,7 +72,7 @@ impl Fresh {
         buffer
     }
 
-    /// Begins with no changes, in the buffer that the pair returned.
+    /// Begins a new list of changes, in the buffer that the pair of boards has returned.
     pub(crate) fn begin(&mut self)
         ensures { self.new ≡ [] }
     {
@@ -83,7 +83,7 @@ impl Fresh {
     }
 }
 
-/// A buffer, or a new one. `None` if out of memory.
+/// The given buffer, or a new one if there is none. `None` if out of memory.
 fn taken_or_new(alloc: Global, buffer: Option<Arc<Vec<Change>>>) -> Option<Arc<Vec<Change>>>
     ensures items { IfSome result (λ made. items_of made ≡ items_in buffer) }
     ensures none { result ≡ None → items_in buffer ≡ [] }
@@ -97,7 +97,7 @@ fn taken_or_new(alloc: Global, buffer: Option<Arc<Vec<Change>>>) -> Option<Arc<V
     }
 }
 
-/// Puts a change after those of a buffer, and returns whether there was memory for it.
+/// Adds a change at the end of a buffer, and returns whether there was memory for it.
 fn put_behind(buffer: &mut Arc<Vec<Change>>, change: &Change) -> bool
     ensures { MatchBool result (items_of buffer.new ≡ items_of buffer.old ++ change.now ∷ []) (items_of buffer.new ≡ items_of buffer.old) }
 {
@@ -112,7 +112,7 @@ fn put_behind(buffer: &mut Arc<Vec<Change>>, change: &Change) -> bool
     }
 }
 
-/// A buffer without content, unless another holder has it too.
+/// Empties a buffer and returns it. `None` if another holder still has the buffer.
 fn emptied(mut buffer: Arc<Vec<Change>>) -> Option<Arc<Vec<Change>>>
     ensures { IfSome result (λ empty. items_of empty ≡ []) }
 {

@@ -34,7 +34,7 @@ impl Rule<LinkedList<Change>, u64> for OneHistory {
     ghost moves = { λ ask before after answer. Unit {0} };
 }
 
-/// The step trades nothing.
+/// A step of a history in which nothing is traded.
 pub struct Nothing;
 
 impl Gain<LinkedList<Change>, u64> for Nothing {
@@ -43,7 +43,7 @@ impl Gain<LinkedList<Change>, u64> for Nothing {
     ghost after = { λ names about answer. ftrue };
 }
 
-/// The step opens a batch.
+/// A step of a history that opens a batch.
 pub struct Opening;
 
 impl Play<LinkedList<Change>, u64> for Opening {
@@ -52,7 +52,7 @@ impl Play<LinkedList<Change>, u64> for Opening {
     ghost then = { Opens };
 }
 
-/// The step publishes the open batch.
+/// A step of a history that publishes the open batch.
 pub struct Closing;
 
 impl Play<LinkedList<Change>, u64> for Closing {
@@ -61,7 +61,7 @@ impl Play<LinkedList<Change>, u64> for Closing {
     ghost then = { Closes };
 }
 
-/// Opening requires nothing.
+/// A history requires nothing in order to open a batch.
 impl Plain<u64, LinkedList<Change>, u64> for Opening {
     ghost use Rattle.std.specs.Prelude.{None, []};
 
@@ -70,7 +70,7 @@ impl Plain<u64, LinkedList<Change>, u64> for Opening {
     ghost state = { λ _. None };
 }
 
-/// Publishing requires the batch.
+/// A history requires the changes of a batch in order to publish it.
 impl Plain<Arc<Vec<Change>>, LinkedList<Change>, u64> for Closing {
     ghost use Rattle.std.specs.Prelude.{None};
     ghost use Rattle.nms_versions.specs.Fresh.{items_of};
@@ -128,8 +128,8 @@ impl History {
         self.seen.again()
     }
 
-    /// Makes sure that a batch is open, and returns whether one is. None is if another holder opened one, but there is no other
-    /// holder.
+    /// Makes sure that a batch is open, and returns whether one is. It could fail only if another holder had opened a batch,
+    /// but there is no other holder.
     pub(crate) fn be_open(&mut self) -> bool
         requires room { length self.old.published < MOST_CHANGES }
         ensures opened { MatchBool result (self.new ≡ record self.old { is_open = true }) (self.new ≡ self.old) }

@@ -1,4 +1,4 @@
-//! What the pair's writer and each reader know about it. It exists only in proofs: no value of it is made.
+//! What the writer and each reader of a pair of boards know about the pair. It exists only in proofs: no value of it is made.
 use crate::sealed::Sealed;
 use std::snapshot::Snapshot;
 

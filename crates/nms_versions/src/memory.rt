@@ -5,7 +5,7 @@ use crate::history::Token;
 use std::marker::Model;
 use std::snapshot::Snapshot;
 
-/// What was seen or learned last, and what came before.
+/// What a desk saw or learned last, and what it saw or learned before.
 #[derive(Drop)]
 pub struct Memory {
     last: Token,

@@ -6,13 +6,13 @@ use nms_board::{Boards, View};
 
 /// One who is shown the published board in a look, and takes from it what it wants.
 pub trait Onlooker {
-    /// What it takes with it.
+    /// What the onlooker takes from the sight of the board.
     type Sight;
 
     /// What the sight of a board does: the onlooker before, the board, the onlooker after, and what it takes with it.
     ghost Sees: { Self → Board → Self → Self.Sight → Type 0 };
 
-    /// Sees the published board. A publisher may wait until it has seen it.
+    /// The onlooker sees the published board. A publisher may wait until the onlooker has seen it.
     fn see(&mut self, board: &Boards) -> Self::Sight
         ensures { Sees self.old board.now self.new result };
 }

@@ -95,7 +95,7 @@ fn open_pair<R: Wait>(
     name_opening(rt, writer, empty)
 }
 
-/// Publishes the empty batch.
+/// Publishes a batch without changes, so that the pair of boards knows its opening.
 fn name_opening<R: Wait>(rt: &R, writer: PairWriter, empty: Batch) -> Result<PairWriter, OpenFault>
     requires idle { drop writer.behind writer.log.items ≡ [] }
     requires empty { items_of empty.changes ≡ [] }

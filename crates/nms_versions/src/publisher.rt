@@ -23,7 +23,7 @@ use std::sync::Wait;
 use std::thread::Parker;
 use std::time::Duration;
 
-/// How many microseconds it rests, after it was out of memory, before it tries again. This product's own rule.
+/// How many microseconds the publisher rests if there is no memory for a batch, before it tries again. This product's own rule.
 const REST: u64 = 1_000;
 
 /// Appends changes to the tape, and publishes it to the desks of its opening. It is not `Drop`, so end it by `close`.
@@ -161,7 +161,7 @@ impl Publisher {
     }
 }
 
-/// Appends a change if there is room for it.
+/// Appends a change to the tape if there is room for it.
 fn put(tape: &mut Vec<Change>, change: Change)
     requires { vec_len tape.old + 1 ≤ vec_capacity tape.old }
     ensures { tape.new.items ≡ tape.old.items ++ change ∷ [] }
@@ -171,7 +171,7 @@ fn put(tape: &mut Vec<Change>, change: Change)
     let _put = tape.push(change);
 }
 
-/// Gives a batch to the pair, and shows the board that has it.
+/// Gives a batch of changes to the pair of boards, and shows the board that has it.
 fn show<R: Wait>(rt: &R, writer: &mut PairWriter, batch: Batch)
     requires idle { drop writer.old.behind writer.old.log.items ≡ [] }
     requires follows { Follows writer.old.desk.shown.value batch }
@@ -182,7 +182,7 @@ fn show<R: Wait>(rt: &R, writer: &mut PairWriter, batch: Batch)
     replace_with(writer, (rt, batch), publish_batch);
 }
 
-/// As `show`, but the writer is returned.
+/// Gives a batch of changes to the pair of boards, shows the board that has it, and returns the pair's writer.
 fn publish_batch<R: Wait>(writer: PairWriter, with: (&R, Batch)) -> (PairWriter, ())
     requires idle { drop writer.behind writer.log.items ≡ [] }
     requires follows { Follows writer.desk.shown.value with.1 }
@@ -196,7 +196,8 @@ fn publish_batch<R: Wait>(writer: PairWriter, with: (&R, Batch)) -> (PairWriter,
     (publish_pair::<Showing, R>(rt, writer), ())
 }
 
-/// Gives a batch to the pair. The pair has had room for it since the opening; else it would wait for memory.
+/// Gives a batch of changes to the pair of boards. The pair has had room for it since the opening; else the publisher would
+/// wait for memory.
 fn give<R: Wait>(rt: &R, writer: &mut PairWriter, batch: Batch)
     ensures desk { writer.new.desk ≡ writer.old.desk }
     ensures pending { drop writer.new.behind writer.new.log.items ≡ drop writer.old.behind writer.old.log.items ++ batch ∷ [] }

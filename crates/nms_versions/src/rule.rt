@@ -15,10 +15,10 @@ use left_right::reader::Reader;
 use left_right::writer::Writer;
 use std::sync::Wait;
 
-/// The writer's end of the pair.
+/// The end of the pair of boards at which the publisher writes.
 pub type PairWriter = Writer<Sealed, Batch, Known, Faithful>;
 
-/// A reader's end of the pair.
+/// The end of the pair of boards at which a desk reads.
 pub type PairReader = Reader<Sealed, Known, Faithful>;
 
 /// The rule: the shown board is the board of its history, and is of the opening that is known.
@@ -69,7 +69,7 @@ impl Join<Known> for Learning {
     ghost spent = { unnamed };
 }
 
-/// The writer shows the board that has everything that was given.
+/// The writer shows the board that has all batches that were given to the pair.
 pub(crate) fn publish_pair<M: Outcome<Sealed, Known>, R: Wait>(
     rt: &R,
     writer: PairWriter,

@@ -15,7 +15,7 @@ pub enum Unsettled {
     Newer {
         /// The desk.
         desk: Desk,
-        /// The longest version that it knows, as its number of changes.
+        /// The longest version that the desk knows, as its number of changes.
         version: u64,
     },
     /// V5: the pair of boards gave no reading.

@@ -37,7 +37,7 @@ impl Held {
         }
     }
 
-    /// Whether nothing is ready.
+    /// Whether no byte is ready to be passed on.
     pub(crate) fn is_empty(&self) -> bool
         ensures empty { result ≡ true → ready_of self.now ≡ [] }
         ensures some { result ≡ false → 0 < length (ready_of self.now) }
@@ -45,7 +45,7 @@ impl Held {
         self.given == self.ready.len()
     }
 
-    /// Passes on what is ready, as far as there is room.
+    /// Passes on the bytes that are ready, as far as the caller's buffer has room, and returns how many these are.
     pub(crate) fn give(&mut self, buf: &mut [u8]) -> usize
         ensures count { result ≡ min (length buf.new) (length (ready_of self.old)) }
         ensures bytes { ready_of self.old ≡ take result buf.new ++ ready_of self.new }
@@ -58,7 +58,7 @@ impl Held {
         count
     }
 
-    /// Takes the bytes that were read, of which none was ready before.
+    /// Takes the bytes that were read from the stream. Before that, no byte may be ready to be passed on.
     pub(crate) fn take_all(&mut self, bytes: &[u8])
         requires empty { ready_of self.old ≡ [] }
         requires few { length bytes.now ≤ MOST_READ }
@@ -87,7 +87,7 @@ impl Held {
         }
     }
 
-    /// Whether the line that was begun can't go on by a byte.
+    /// Whether a byte makes the line that was begun one that can't be passed on.
     fn is_spoilt_by(&self, byte: u8) -> bool
         ensures { result ≡ spoils self.now.line.items byte }
     {
@@ -109,7 +109,7 @@ impl Held {
         }
     }
 
-    /// Ends the stream: a line that was begun was torn.
+    /// Ends the stream. A line that was begun lacks its line feed, and is refused as torn.
     pub(crate) fn end(&mut self)
         requires empty { ready_of self.old ≡ [] }
         ensures same { still self.new [] ≡ still self.old [] }

@@ -62,7 +62,7 @@ fn sub_command<'a>(alloc: Global, sub: Sub) -> Result<Command<'a>, AllocError>
     Command::new(alloc, name).about(about).args(args)
 }
 
-// The arguments as the parser takes them.
+// The arguments of a subcommand, in the form that the parser takes.
 fn args_of<'a>(alloc: Global, words: &[Word]) -> Result<Vec<Arg<'a>>, AllocError>
     ensures rules { IfOk result (λ args. map rule_of args.items ≡ map rule_for words.now) }
     ensures local { IfOk result (λ args. All (λ arg. arg.global ≡ false) args.items) }

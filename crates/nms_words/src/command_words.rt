@@ -22,9 +22,9 @@ tip: give --setup after the subcommand: nms_tool script --setup FILE
 
 /// Reads the arguments that follow the program's name: a subcommand, its own arguments and its options.
 ///
-/// No arguments ask for the script with no setup. Arguments in which the parser finds no fault are a request. Else the answer
-/// is `Parser`, for one of the faults that it finds, or for the help or the version that was asked for. `NoMemory` may come
-/// instead of any answer.
+/// Without arguments, the script is asked for, with no setup. Arguments in which the parser finds no fault give a request.
+/// Otherwise the answer is `Parser`, with one of the faults that it finds, or with the help or the version that was asked for.
+/// `NoMemory` may replace any answer.
 pub fn read_words<'a>(alloc: Global, words: &'a [&'a str]) -> Result<Request, WordsFault>
     ensures read { IfOk result (λ request. asked_by (map (λ word. word.now) words.entry.now) ≡ Some (shown request)) }
     ensures accepted { IfOk result (λ _. faults_in (map (λ word. word.now) words.entry.now) ≡ []) }
@@ -37,7 +37,7 @@ pub fn read_words<'a>(alloc: Global, words: &'a [&'a str]) -> Result<Request, Wo
     parse_words(alloc, words)
 }
 
-// The request that the parser's matches hold.
+// Lets the parser read the arguments, and makes a request of what it finds.
 fn parse_words<'a>(alloc: Global, words: &'a [&'a str]) -> Result<Request, WordsFault>
     ensures read { IfOk result (λ request. asked_by (map (λ word. word.now) words.entry.now) ≡ Some (shown request)) }
     ensures accepted { IfOk result (λ _. faults_in (map (λ word. word.now) words.entry.now) ≡ []) }
@@ -50,7 +50,7 @@ fn parse_words<'a>(alloc: Global, words: &'a [&'a str]) -> Result<Request, Words
     }
 }
 
-// The parser's text, or that it was out of memory.
+// Turns a fault of the parser into the parser's text, or into a lack of memory.
 fn fault_of(alloc: Global, words: &[&str], error: &Error) -> WordsFault
     ensures memory { kind_of error.now ≡ ErrorKind.OutOfMemory → result ≡ WordsFault.NoMemory }
     ensures refused { IsRefusal (kind_of error.now ∷ []) result }
@@ -68,7 +68,7 @@ fn fault_of(alloc: Global, words: &[&str], error: &Error) -> WordsFault
     }
 }
 
-// The parser's text with escapes, and with a tip for an option before its subcommand.
+// The parser's text with escapes. A tip follows if `--setup` comes before the subcommand.
 fn text_of(alloc: Global, words: &[&str], error: &Error) -> Result<String, AllocError> {
     let text = format!(in alloc; "{error}")?;
     let shown = Shown(text.as_str());
@@ -91,7 +91,7 @@ fn is_help(kind: ErrorKind) -> bool
     matches!(kind, ErrorKind::DisplayHelp | ErrorKind::DisplayVersion)
 }
 
-// The request that the matches hold.
+// Makes a request of the arguments that the parser has found. Without a subcommand the script is asked for.
 fn request_in(alloc: Global, matches: &ArgMatches<'_>) -> Result<Request, AllocError>
     requires { is_some (asked_of (subcommand_rows_of matches.now)) ≡ true }
     ensures { IfOk result (λ request. asked_of (subcommand_rows_of matches.now) ≡ Some (shown request)) }
@@ -111,7 +111,8 @@ fn request_in(alloc: Global, matches: &ArgMatches<'_>) -> Result<Request, AllocE
     }
 }
 
-// The request that a subcommand's matches hold. They have each of the arguments that it needs.
+// Makes a request of the arguments that the parser has found for a subcommand. The parser makes sure that needed ones are
+// present.
 fn request_of(alloc: Global, command: Sub, matches: &ArgMatches<'_>) -> Result<Request, AllocError>
     requires { is_some (asked_in (rows_of (found_of matches.now)) command) ≡ true }
     ensures { IfOk result (λ request. Some (shown request) ≡ asked_in (rows_of (found_of matches.now)) command) }
@@ -128,7 +129,7 @@ fn request_of(alloc: Global, command: Sub, matches: &ArgMatches<'_>) -> Result<R
     })
 }
 
-// The values of the arguments that are no options, for each that has one.
+// The values of the subcommand's own arguments, in order. Options are not among them.
 fn own_values(
     alloc: Global,
     words: &[Word],
@@ -145,7 +146,7 @@ fn own_values(
     Ok(values)
 }
 
-// The first value of an argument that is no option.
+// The value of one of the subcommand's own arguments, if it was given. An option has none here.
 fn own_value<'a>(matches: &ArgMatches<'a>, word: &Word) -> Option<&'a str>
     ensures { option_map (λ value. value.now) result ≡ own_value (rows_of (found_of matches.now)) word.now }
 {
@@ -155,7 +156,7 @@ fn own_value<'a>(matches: &ArgMatches<'a>, word: &Word) -> Option<&'a str>
     }
 }
 
-// The text of an option's value, if it has one.
+// The value of the option with the given name, as a new text, if it was given.
 fn value_text(
     alloc: Global,
     matches: &ArgMatches<'_>,
@@ -169,14 +170,14 @@ fn value_text(
     }
 }
 
-// The first value under the name.
+// The first value that the parser has found for the argument with the given name.
 fn first_value<'a>(matches: &ArgMatches<'a>, name: &str) -> Option<&'a str>
     ensures { option_map (λ value. value.now) result ≡ first_of name.now (rows_of (found_of matches.now)) }
 {
     matches.get_str(name)
 }
 
-// Whether the matches hold the flag. The parser gives it the text `true` or `false`.
+// Whether `--manual` was given. The parser gives this option the text `true` or `false`.
 fn is_flagged(matches: &ArgMatches<'_>) -> bool
     ensures { result ≡ is_flagged (rows_of (found_of matches.now)) }
 {

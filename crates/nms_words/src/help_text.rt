@@ -3,8 +3,8 @@
 /// The version that `--version` reports.
 pub(crate) const VERSION: &str = "0.3.0";
 
-/// The end of the help. An installed program has no `docs/ERRORS.md` next to it, so each code of a refusal is explained here.
-/// That page says what to do about it.
+/// The end of the help. It explains each code of a refusal, because an installed program has no `docs/ERRORS.md` next to it. That
+/// page says what to do about a refusal.
 pub(crate) const AFTER_HELP: &str = "Each command also takes:
       --setup <FILE>  The file of the setup, in place of the built-in one
 

@@ -1,10 +1,10 @@
-//! The parser's text as it is printed. It quotes arguments of the call, and an escape replaces each character on which a
+//! The parser's text, with escapes. The text quotes arguments of the call, so an escape replaces each character on which a
 //! terminal could act.
 use std::fmt;
 use std::fmt::Write;
 
-/// A text with printable ASCII, line feeds and the letters of European alphabets as they are. Any other character becomes
-/// `\x1b` or `\u{202e}`, and a backslash becomes two.
+/// A text that is printed with printable ASCII, line feeds and the letters of European alphabets as they are. Any other character
+/// is printed as `\r`, `\t`, `\x1b` or `\u{202e}`, and a backslash as two.
 #[derive(Clone, Copy)]
 pub(crate) struct Shown<'a>(pub(crate) &'a str);
 

@@ -193,8 +193,8 @@ impl Sub {
         }
     }
 
-    /// The arguments that the parser takes for it. First come those that it needs, in order. Those that may follow them are in
-    /// order, and each needs all before it. Its options may be given at most once each and in any order.
+    /// The arguments that the parser takes for the subcommand. Needed arguments come first, in order. Optional arguments follow
+    /// in order, and each needs all arguments before it. Each option may be given once, and in any order.
     pub(crate) fn words(self) -> &'static [Word]
         ensures rules { map rule_for result.now ≡ rules_of_sub self }
         ensures own { own_of result.now ≡ own_names self ++ more_names self }

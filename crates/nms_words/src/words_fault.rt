@@ -5,8 +5,8 @@ use thiserror::Error;
 /// Why the arguments of the command line are no request.
 #[derive(Debug, Drop, Error)]
 pub enum WordsFault {
-    /// G1: the parser refuses the arguments, and has the text. If `help` holds, the text is the help or the version that was
-    /// asked for.
+    /// G1: the parser refuses the arguments, and has a text about it. If `help` is true, the text is the help or the version that
+    /// was asked for.
     Parser { text: String, help: bool },
     /// G2: out of memory.
     NoMemory,
@@ -16,7 +16,7 @@ impl WordsFault {
     ghost use Rattle.std.specs.Prelude.{◌≡◌};
     ghost use Rattle.nms_words.specs.Faults.{status_of};
 
-    /// The exit status of a program that ends with it: 2 for arguments, 5 for memory.
+    /// The exit status of a program that ends with this fault: 2 for refused arguments, 5 for a lack of memory.
     pub fn status(&self) -> u8
         ensures { result ≡ status_of self.now }
     {

@@ -16,12 +16,12 @@ use nms_trades::Timing;
 use std::alloc::Global;
 use std::io::{Read, Write};
 
-/// Writes the page of a symbol's day as `draw_changes` does, with the executions of a file in that symbol. Each is at its
+/// Writes the page of a symbol's day along a file of changes, with the executions of a file in that symbol. Each is at its
 /// price, and at its time, or at its version if the page counts versions. An execution that names a version has the time of
 /// that version.
 ///
-/// After a fault of what was given nothing is written. `Refused` if a record of the executions is refused, else `Done`. The
-/// page is not flushed.
+/// After a fault of the input nothing is written. `Refused` if a record of the executions is refused, else `Done`. The page is
+/// not flushed.
 pub fn draw_executions<C: Read + Drop, E: Read + Drop, W: Write>(
     alloc: Global,
     setup: &Setup,

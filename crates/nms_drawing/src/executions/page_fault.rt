@@ -18,7 +18,7 @@ pub enum PageFault {
 }
 
 impl PageFault {
-    /// The code of the fault: that of the picture, or that of judging executions.
+    /// The code of the fault: that of drawing the day, or that of judging the executions.
     pub fn code(self) -> Code
         ensures { IsToldAs result (code_of self) (status_of self) }
     {

@@ -20,12 +20,12 @@ use nms_trades::{Layout, Timing, write_findings};
 use std::alloc::Global;
 use std::io::{Read, Write};
 
-/// What is asked for about a file of executions, next to the page.
+/// What the caller asks for about a file of executions, for its answers and for its page.
 #[derive(Clone, Copy)]
 pub struct Asked<'a> {
     /// The form of the answers.
     pub form: Form,
-    /// Their layout.
+    /// The layout of the answers.
     pub layout: Layout,
     /// The pairs of a key and its text that say what the page was made from.
     pub pairs: &'a [&'a [u8]],
@@ -33,8 +33,8 @@ pub struct Asked<'a> {
     pub bests: bool,
 }
 
-/// Judges the executions of a file as `judge_file` of `nms_trades` does, with the same answers, and also writes a page. It has
-/// the days of their symbols, with each execution and the quotations that it traded through.
+/// Judges the executions of a file, writes the answers about them, and also writes a page. The page has the days of their
+/// symbols, with each execution and the quotations that it traded through.
 ///
 /// `Refused` if a record is refused, else `Done`. Nothing is flushed.
 pub fn write_page<C: Read + Drop, E: Read + Drop, W: Write, P: Write>(
@@ -101,7 +101,7 @@ fn write_both<W: Write, P: Write>(
     }
 }
 
-/// Writes the page.
+/// Writes the page of executions that were judged.
 fn write_judged<P: Write>(
     alloc: Global,
     tape: &Tape<'_>,

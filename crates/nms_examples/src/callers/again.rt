@@ -1,4 +1,4 @@
-//! Appending when memory may be short: a change for which there was none is appended once more, and nothing is lost between.
+//! Appending when memory may be short. A change that is refused for lack of memory is appended once more, so that none is lost.
 ghost use Rattle.std.specs.Prelude.{◌≡◌};
 
 use crate::Failed;
@@ -10,7 +10,7 @@ use std::alloc::Global;
 use std::sync::Wait;
 use std::thread;
 
-/// The result.
+/// What came of appending the changes.
 #[derive(Drop)]
 pub(crate) struct Appended {
     /// How many of the changes are at their places on the tape.
@@ -19,7 +19,7 @@ pub(crate) struct Appended {
     pub(crate) tape: usize,
     /// The last version that a desk saw, and how many shares it saw there.
     pub(crate) shown: (u64, u32),
-    /// Whether each change was appended, the first time or the second, and each refusal left everything as it was.
+    /// Whether each change was appended, at the first or the second attempt, and each refusal left everything as it was.
     pub(crate) is_whole: bool,
 }
 
@@ -48,7 +48,7 @@ pub(crate) fn append_all<R: Wait>(
     })
 }
 
-/// Appends each change, and publishes after half of them and after all.
+/// Appends each change, and publishes after the first half of the changes and after all.
 fn append_each<R: Wait>(rt: &R, publisher: &mut Publisher, count: u32) -> bool {
     let mut is_whole = true;
     for number in 0..count {
@@ -61,14 +61,15 @@ fn append_each<R: Wait>(rt: &R, publisher: &mut Publisher, count: u32) -> bool {
     is_whole
 }
 
-/// The change with that number. The participant offers a round lot more each time.
+/// The change with a given number: an offer of the first participant. The offer grows by a round lot with each number, up to
+/// 1,000 lots.
 fn offer_numbered(number: u32) -> Option<Change> {
     let shares = (number % 1000 + 1) * 100;
     offer_of(0, QState::Automated, 100_000, shares)
 }
 
-/// Appends the change with that number, and reports whether it is on the tape now. If out of memory, the tape and what is
-/// published have to be as they were, and the same change is appended once more.
+/// Appends the change with a given number, and reports whether it is on the tape now. If memory is short, the tape and the
+/// published version have to be as they were. Then it appends the same change once more.
 fn append_again(publisher: &mut Publisher, number: u32) -> bool {
     let Some(change) = offer_numbered(number) else {
         return false;

@@ -4,10 +4,10 @@ use nms_nbbo::{Market, best, market};
 use nms_quote::{Change, Roster, Side, Sym};
 use std::alloc::Global;
 
-/// Why there is no answer.
+/// Why a call on the board gives no answer.
 #[derive(Clone, Copy, Debug, PartialEq, Eq)]
 pub(crate) enum LookFault {
-    /// The change at this place, counted from 0, is not of the roster, or is one too many.
+    /// The change at this place, counted from 0, is not of the roster, or the board has no room for it.
     Refused(usize),
     /// There is no memory for a board.
     Board(BoardFault),

@@ -4,7 +4,7 @@ use nms_flow::{BestRows, Flow, FlowFault, StepFault};
 use nms_quote::{Change, Feed, Sym};
 use std::alloc::Global;
 
-/// Why there is no answer.
+/// Why a run of the machine gives no answer.
 #[derive(Clone, Copy, Debug, PartialEq, Eq)]
 pub(crate) enum ConsolidateFault {
     /// There is no memory for a machine.

@@ -77,7 +77,7 @@ fn open_two(alloc: Global, capacity: usize) -> Option<(Sender, Sender, Taker)>
     Some((a, b, taker))
 }
 
-/// Closes it, once all was taken.
+/// Closes a lane of two feeds. `None` if not all changes were taken, or if out of memory.
 fn close_two(alloc: Global, a: Sender, b: Sender, taker: Taker) -> Option<Delivered>
     requires one_lane { (a.lane ≡ taker.lane) × (b.lane ≡ taker.lane) }
     requires feeds { (a.feed ≡ feed.A) × (b.feed ≡ feed.B) }
@@ -91,14 +91,14 @@ fn close_two(alloc: Global, a: Sender, b: Sender, taker: Taker) -> Option<Delive
     close(senders, taker).ok()
 }
 
-/// Ends a loan: what is known of the publisher that was lent is known of it from here on.
+/// Ends a loan of the publisher to other threads. The prover then knows the same facts about it as it did during the loan.
 fn take_back(publisher: &mut Publisher)
     ensures { publisher.new ≡ publisher.old }
 {
     let _publisher = publisher;
 }
 
-/// Opens a tape with one desk. Without one it is closed.
+/// Opens a tape with one desk. If there is no desk, the tape is closed and the call fails.
 fn open<R: Wait>(rt: &R, alloc: Global, setup: &Setup) -> Result<(Publisher, Desk), Failed>
     ensures { IfOk result (λ ends. ends.1.opening ≡ ends.0.opening) }
 {
@@ -114,7 +114,7 @@ fn open<R: Wait>(rt: &R, alloc: Global, setup: &Setup) -> Result<(Publisher, Des
     }
 }
 
-/// The last desk of an opening.
+/// The last of the desks that were opened with a tape.
 fn one_of(publisher: &Publisher, mut desks: Vec<Desk>) -> Option<Desk>
     requires { All (λ desk. desk.opening ≡ publisher.now.opening) desks.items }
     ensures { IfSome result (λ desk. desk.opening ≡ publisher.now.opening) }
@@ -122,7 +122,7 @@ fn one_of(publisher: &Publisher, mut desks: Vec<Desk>) -> Option<Desk>
     desks.pop()
 }
 
-/// Sends from both feeds and looks, all at once.
+/// Sends a change n times from each of two feeds, while a desk looks.
 fn send_and_look<R: Threads + Wait + Sync>(
     rt: &R,
     ends: (Sender, Sender, Desk),
@@ -150,7 +150,7 @@ fn send_and_look<R: Threads + Wait + Sync>(
     (a, b, desk)
 }
 
-/// Sends from one feed and looks, both at once.
+/// Sends a change n times from one feed, while a desk looks.
 fn send_beside_looks<R: Threads + Wait + Sync>(
     rt: &R,
     sender: Sender,
@@ -174,7 +174,7 @@ fn send_beside_looks<R: Threads + Wait + Sync>(
     )
 }
 
-/// Takes a number of changes and appends them. Publishes if the lane is empty, and at the end.
+/// Takes n changes from the lane and appends them. It publishes whenever the lane is empty, and at the end.
 fn publish_all<R: Wait>(rt: &R, publisher: &mut Publisher, mut taker: Taker, changes: u64) -> Taker
     ensures opening { publisher.new.opening ≡ publisher.old.opening }
     ensures lane { (result.lane ≡ taker.lane) × (result.senders ≡ taker.senders) }
@@ -199,14 +199,14 @@ fn publish_all<R: Wait>(rt: &R, publisher: &mut Publisher, mut taker: Taker, cha
     taker
 }
 
-/// Appends a change of the roster. A full tape, or out of memory, leaves it out.
+/// Appends a change if it is of the roster. Returns whether it is on the tape: a full tape or a lack of memory leaves it out.
 fn append(publisher: &mut Publisher, change: Change) -> bool
     ensures { publisher.new.opening ≡ publisher.old.opening }
 {
     publisher.holds(&change) && publisher.append(change).is_ok()
 }
 
-/// Looks a number of times. No look shows an older version than one before it.
+/// Makes n looks at a symbol. No look shows an older version than a look before it.
 fn look_often(mut desk: Desk, sym: Sym, looks: u32) -> Desk
     ensures { result.opening ≡ desk.opening }
 {
@@ -216,7 +216,7 @@ fn look_often(mut desk: Desk, sym: Sym, looks: u32) -> Desk
     desk
 }
 
-/// Informs the desk of the whole tape, and settles it: all that it saw was of this tape, and was published.
+/// Informs the desk of the complete tape, and settles it. This confirms that all that the desk saw was published from this tape.
 fn settle<R: Wait>(rt: &R, mut publisher: Publisher, mut desk: Desk) -> Option<u64>
     requires { desk.opening ≡ publisher.opening }
 {

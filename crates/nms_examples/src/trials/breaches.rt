@@ -10,7 +10,7 @@ use nms_rules::breach;
 use std::alloc::Global;
 use std::test::Fail;
 
-/// Tries the plans on versions before their own, on their own, and on the next one.
+/// Judges the plans on versions before the plans' own, on their own, and on the next one.
 pub(super) fn try_all(alloc: Global, setup: &Setup) -> Result<(), Fail> {
     let mut board = Boards::new(alloc, setup.roster())?;
     let sym = there(setup.roster().find_sym(b"ABC"))?;
@@ -26,7 +26,7 @@ pub(super) fn try_all(alloc: Global, setup: &Setup) -> Result<(), Fail> {
     Ok(())
 }
 
-/// Judges plans of version 3 to buy 700 ABC at 10.01 or better on a view. Each has its first breach there.
+/// Judges plans of version 3 to buy 700 ABC at 10.01 or better, on a given view. Each plan has its expected first breach.
 fn try_plans(alloc: Global, setup: &Setup, view: &View) -> Result<(), Fail> {
     for (rest, code) in [
         ("700,7006.020000000\nLEG,N,10,300\nLEG,P,10.01,400", "none"),
@@ -52,7 +52,7 @@ fn try_plans(alloc: Global, setup: &Setup, view: &View) -> Result<(), Fail> {
     Ok(())
 }
 
-/// Judges a plan for its own order, and for each that differs in one field.
+/// Judges a plan for its own order, and for each order that differs from it in one field.
 fn try_plan(setup: &Setup, view: &View, plan: &Plan, code: &'static str) -> Result<(), Fail> {
     let is_its_own = view.version() == plan.version;
     let first = if is_its_own { code } else { "P1" };

@@ -11,10 +11,11 @@ use nms_units::{Price, Shares};
 use std::alloc::Global;
 use std::test::Fail;
 
-/// A price in 1/10,000 dollar, how many shares must be swept there, what they cost in nanodollars, and how many the pool has.
+/// A cutoff in numbers: a price in 1/10,000 dollar, the shares that must be swept first, their cost in nanodollars, and the
+/// pool's shares.
 type Told = (u64, u64, i128, u64);
 
-/// What a cutoff reports.
+/// The numbers of a cutoff; `None` if there are no more cutoffs.
 fn told(cutoff: Option<Cutoff>) -> Option<Told> {
     let cutoff = cutoff?;
     Some((
@@ -33,7 +34,7 @@ fn order_for(sym: Sym) -> Option<Order>
     Order::new(OrderSide::Buy, sym, shares, limit, true, PartSet::none())
 }
 
-/// Compares the answers for that order, one after another.
+/// Compares the cutoffs of an order to buy 200 shares at 0.5002 or less with the expected ones, in order.
 fn compare(view: &View, fees: &FeeBook, due: &[Option<Told>]) -> Result<(), Fail> {
     let Some(order) = order_for(view.sym()) else {
         return Err(Fail::new("no order"));
@@ -45,8 +46,8 @@ fn compare(view: &View, fees: &FeeBook, due: &[Option<Told>]) -> Result<(), Fail
     Ok(())
 }
 
-/// N's manual offer is in the pool at each price and is never swept. P's protected one is in the pool at its own price, and is
-/// swept with its fee at the worse one. After the last price there are no further cutoffs.
+/// N's manual offer is in the pool at each price and is never swept. P's protected offer is in the pool at its own price. At the
+/// next, worse price it is swept, and its fee counts. After the last price there are no further cutoffs.
 pub(super) fn a_protected_row_is_swept_with_its_fee_at_the_next_price(
     alloc: Global,
     setup: &Setup,

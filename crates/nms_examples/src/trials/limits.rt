@@ -1,4 +1,4 @@
-//! The limits of numbers, by values from outside; the faults of their texts; and the laws about these.
+//! The least and greatest numbers, tried with values just inside and outside; and the faults of texts that give no number.
 use super::{same, there};
 use nms_fees::Setup;
 use nms_quote::{OrderSide, Part};
@@ -10,13 +10,14 @@ pub(super) fn try_all(setup: &Setup) -> Result<(), Fail> {
     whole_lots_are_displayed()?;
     each_wrong_text_has_its_fault()?;
     who_is_no_participant_has_no_fee(setup)?;
-    // The two laws that what is printed is read back are calls that do nothing.
+    // These calls do nothing. They show that a program may call a law: a price or an amount that is printed is read back
+    // unchanged.
     Price::reads_what_it_prints();
     Money::reads_what_it_prints();
     Ok(())
 }
 
-/// The least and the greatest number can be made, and none beyond them.
+/// The least and the greatest price and lot can be made, and none beyond them. No number of shares exceeds 999,999,999.
 fn numbers_have_their_limits() -> Result<(), Fail> {
     for (number, is_price) in [
         (0, false),
@@ -43,7 +44,8 @@ fn whole_lots_are_displayed() -> Result<(), Fail> {
     Ok(())
 }
 
-/// A record or a plan with such a text has its own code, which does not distinguish these.
+/// Each wrong text of a price or of shares has its fault. A record or a plan with such a text reports one code for all these
+/// faults.
 fn each_wrong_text_has_its_fault() -> Result<(), Fail> {
     for text in [b"0".as_slice(), b"0000000.0000"] {
         same(Price::parse(text), Err(UnitFault::ZeroPrice))?;

@@ -1,4 +1,4 @@
-//! How much a roster takes, and what is on it.
+//! How many participants and symbols a roster takes, and which changes are of it.
 use super::same;
 use nms_board::Boards;
 use nms_quote::{Change, Feed, Part, QState, Roster, RosterFault, Sym};
@@ -22,12 +22,13 @@ fn symbol_added(roster: &mut Roster, name: &str) -> Result<u16, RosterFault> {
     Ok(sym.get())
 }
 
-/// The name that is the number of a place.
+/// A name that is the decimal number of a place.
 fn named(alloc: Global, place: u16) -> Result<String, Fail> {
     Ok(format!(in alloc; "{place}")?)
 }
 
-/// Adds N and 31 more, each named by its place, and compares the answers before and after. A board of this roster is empty.
+/// Adds participant N and 31 more, each named by its place. It compares the refusals before and after. A board of this roster is
+/// empty.
 fn a_roster_takes_32_participants_and_tells_each_refusal(
     alloc: Global,
     roster: &mut Roster,
@@ -55,7 +56,7 @@ fn a_roster_takes_32_participants_and_tells_each_refusal(
     same(Boards::new(alloc, roster)?.applied(), 0)
 }
 
-/// Adds symbols, each named by its place.
+/// Adds 1,000 symbols, each named by its place. One more symbol, a name given twice and a wrong name are refused.
 fn a_roster_takes_1000_symbols_and_tells_each_refusal(
     alloc: Global,
     roster: &mut Roster,
@@ -74,7 +75,7 @@ fn a_roster_takes_1000_symbols_and_tells_each_refusal(
     Ok(())
 }
 
-/// A state of the participant at a place in the symbol at a place.
+/// A halt of the participant at a place in the symbol at a place.
 fn state_at(part: u8, sym: u16) -> Option<Change> {
     Some(Change::State {
         part: Part::new(part)?,

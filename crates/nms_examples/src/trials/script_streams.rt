@@ -17,12 +17,12 @@ pub(super) fn try_all(alloc: Global, setup: &Setup) -> Result<(), Fail> {
     a_failed_read_leaves_the_answers_so_far(alloc, setup)?;
     a_failed_write_or_flush_ends_the_script(alloc, setup)?;
     no_record_follows_a_failed_read(alloc)?;
-    // The law is called because it is a function that does nothing.
+    // A law is a function that does nothing, so a program may call it like any other.
     the_least_fault_is_read();
     Ok(())
 }
 
-/// Records, each with how many bytes its answer has.
+/// The records of a script, each with how many bytes its answer has.
 const RECORDS: [(&str, usize); 9] = [
     ("Q,N,ABC,A,9.99,100,10.00,300\n", 0),
     ("F\n", "PUB,1\n".len()),
@@ -39,7 +39,8 @@ fn records() -> &'static [(&'static str, usize)] {
     &RECORDS
 }
 
-/// Begins a record, or ends, if exactly the answers to all records before were written. Else the read fails.
+/// A source of records that checks the answers. It gives the next record only if the answers to all earlier ones were written, no
+/// more and no less. Else the read fails.
 #[derive(Drop)]
 struct Asker<'a> {
     rest: &'static [u8],
@@ -65,7 +66,7 @@ impl<'a> Read for Asker<'a> {
     }
 }
 
-/// Nine records, six of them answered, of nine writes and flushes.
+/// Runs a script of nine records on a stream that takes nine writes and flushes. Six of the records are answered.
 fn each_answer_is_one_write_and_out_before_the_next_read(
     alloc: Global,
     setup: &Setup,
@@ -84,7 +85,8 @@ fn each_answer_is_one_write_and_out_before_the_next_read(
     same((pipe.writes, pipe.flushes, out.get()), (3, 3, 69))
 }
 
-/// What ends a script if n writes and flushes succeed, and how many bytes are written by then.
+/// Runs a script on a stream that takes n writes and flushes. Returns the fault that ends the script, and how many bytes were
+/// written.
 fn ended(
     alloc: Global,
     setup: &Setup,
@@ -99,7 +101,7 @@ fn ended(
 }
 
 fn a_failed_read_leaves_the_answers_so_far(alloc: Global, setup: &Setup) -> Result<(), Fail> {
-    // The loop is over two texts, because the last record of the third script does not end.
+    // The source is two texts with a failure between them, because the last record of the third script does not end.
     for (text, answers) in [
         (b"".as_slice(), 0),
         (b"Q,N,ABC,A,,,10.00,100\nF\nP\n", 12),

@@ -1,4 +1,4 @@
-//! Texts that are written in one write: reports, plans and the text of a live run, on streams that fail or count.
+//! Reports, plans and the text of a live run are each written in one write. They are tried on streams that fail or count.
 use super::same;
 use super::streams::{Pipe, Source};
 use nms_engine::{ChangesFault, LiveFault, order_of, plan_changes, report_changes, write_live};
@@ -18,8 +18,8 @@ pub(super) fn try_all(alloc: Global, setup: &Setup) -> Result<(), Fail> {
     the_faults_that_end_no_run_have_their_statuses()
 }
 
-/// How many writes and flushes succeed; the code of the fault that then ends the call, `""` for none; and how many bytes are
-/// written by then.
+/// What ends a call on a stream: how many writes and flushes succeed, the code of the fault, and how many bytes are written. The
+/// code is `""` if the call succeeds.
 type Ended = (usize, usize, &'static str, usize);
 
 fn a_report_is_one_write_of_a_file_that_was_read_to_its_end(
@@ -56,7 +56,7 @@ fn a_report_is_one_write_of_a_file_that_was_read_to_its_end(
     Ok(())
 }
 
-/// Tries a plan on no changes.
+/// A plan on a board without changes is written in one write and flushed. A failed write or flush ends the call.
 fn a_plan_is_one_write_and_flushed(alloc: Global, setup: &Setup) -> Result<(), Fail> {
     let Some(order) = order_of(setup.roster(), "B", "ABC", "100", "10", false, None) else {
         return Err(Fail::new("an order"));
@@ -74,7 +74,7 @@ fn a_plan_is_one_write_and_flushed(alloc: Global, setup: &Setup) -> Result<(), F
     Ok(())
 }
 
-/// Tries the text of a run of 4 changes and no order.
+/// The text of a live run of 4 changes and no order is written in one write and flushed.
 fn the_text_of_a_live_run_is_one_write_and_flushed(
     alloc: Global,
     setup: &Setup,
@@ -92,7 +92,7 @@ fn the_text_of_a_live_run_is_one_write_and_flushed(
     Ok(())
 }
 
-/// Tries the longest plan, and amounts of money on both sides of 64 bits, which no planner writes.
+/// The longest plan is written as it was read. Its amounts of money lie on both sides of 64 bits, which no planner writes.
 fn a_plan_is_written_as_it_was_read(alloc: Global, setup: &Setup) -> Result<(), Fail> {
     let mut text = Vec::new(alloc);
     let most = "99999999999999999999.999999999";
@@ -133,7 +133,8 @@ fn a_failed_write_of_a_plan_is_told(alloc: Global, setup: &Setup) -> Result<(), 
     same(told, Err(PlanTextFault::WriteFault))
 }
 
-/// Tries a wrong feed in a file that is of none. In a live run it tries a desk without a reading and a gate that stays closed.
+/// Three faults have their codes and statuses: a wrong feed in a file without feeds, a desk without a reading, a gate that stays
+/// closed.
 fn the_faults_that_end_no_run_have_their_statuses() -> Result<(), Fail> {
     let wrong_feed = ChangesFault::Line(LineFault::WrongFeed);
     same((wrong_feed.code(), wrong_feed.status()), ("L9", 6))?;

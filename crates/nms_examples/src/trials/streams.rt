@@ -1,9 +1,9 @@
-//! Streams that fail or count.
+//! Streams that fail after a number of calls, or count the bytes written.
 use std::cell::Cell;
 use std::io;
 use std::io::{ErrorKind, Read, Write};
 
-/// Gives a text, then fails once if asked to, and then gives another text.
+/// A source that gives a text, then fails once if asked to, and then gives another text.
 #[derive(Drop)]
 pub(super) struct Source<'a> {
     pub(super) text: &'a [u8],
@@ -25,7 +25,7 @@ impl<'a> Read for Source<'a> {
     }
 }
 
-/// Takes n more writes and flushes, and fails from then on. Reports how many bytes were written, and flushed since.
+/// A stream that takes n writes and n flushes, and fails from then on. It counts the bytes written, and those flushed.
 #[derive(Drop)]
 pub(super) struct Pipe<'a> {
     pub(super) bytes: usize,
@@ -59,7 +59,7 @@ impl<'a> Write for Pipe<'a> {
     }
 }
 
-/// The number less one; a failure if it is 0.
+/// A count of what is left, less one. It is a failure if nothing is left.
 fn one_less(left: usize) -> io::Result<usize> {
     left.checked_sub(1)
         .ok_or(io::Error::from(ErrorKind::BrokenPipe))

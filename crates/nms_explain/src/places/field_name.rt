@@ -45,20 +45,20 @@ pub(crate) enum FieldName {
     Filled,
     /// What a plan costs.
     Cost,
-    /// What a cut claims.
+    /// What a cut claims about its price: `TOOMUCH`, `TOOLITTLE` or `MARGINAL`.
     Says,
-    /// The money of a cut.
+    /// The money that a cut gives after `MARGINAL`.
     Value,
     /// The name of an execution.
     Id,
     /// The version or the time of an execution.
     When,
-    /// What an execution claims.
+    /// The flags of an execution, which claim exceptions.
     Flags,
 }
 
 impl FieldName {
-    /// The name as the pages write it, as `bidshares`.
+    /// The name of the field as the documentation writes it, for example `bidshares`.
     pub(crate) fn text(self) -> &'static str
         ensures { result.now ≡ text_of self }
     {

@@ -1,5 +1,5 @@
-//! The laws about plans' records: `specs/PlanOrder` and `specs/PlanExamples`. The functions do nothing at run time: their contracts are the
-//! laws.
+//! The laws about plans' records: `specs/PlanOrder` and `specs/PlanExamples`. The functions do nothing at run time: their
+//! contracts are the laws.
 ghost use Rattle.nms_explain.specs.PlanExamples.{ExamplesHold};
 ghost use Rattle.nms_explain.specs.PlanOrder.{ReadsWhereNoRecordIsWrong};
 

@@ -16,7 +16,7 @@ pub(crate) fn kind_of(row: &ByteRecord) -> Option<Kind>
     kind_named(text_at(row, 0))
 }
 
-/// The field of a record after n others, by the name that it has in a record of its kind.
+/// The field of a record after n others, with the name that such a field has in a record of that kind.
 pub(crate) fn field_in(row: &ByteRecord, place: u8) -> FieldPlace
     ensures { result ≡ field_named (names_in (fields_of row.now)) place }
 {
@@ -26,7 +26,7 @@ pub(crate) fn field_in(row: &ByteRecord, place: u8) -> FieldPlace
     }
 }
 
-/// The field after n others of the plan's record that is due, by its name, if a record is due.
+/// The field after n others of the record of a plan that is due next, with its name.
 pub(crate) fn plan_field_in(due: Option<PlanRecord>, place: u8) -> FieldPlace
     ensures { result ≡ field_named (names_due due) place }
 {
@@ -36,7 +36,7 @@ pub(crate) fn plan_field_in(due: Option<PlanRecord>, place: u8) -> FieldPlace
     }
 }
 
-/// The field after n others, if the fields have these names. A field past them is called as the first of a record.
+/// The field after n others of a record whose fields have the given names. A field past the last name is called a kind.
 fn field_named(names: &[FieldName], place: u8) -> FieldPlace
     ensures { result ≡ field_named names.now place }
 {
@@ -52,7 +52,8 @@ pub(crate) fn most_fields(row: &ByteRecord) -> usize {
     kind_of(row).map_or(0, |kind| names_of(kind, row.len()).len())
 }
 
-/// The names of the fields of a record of the kind, if it has `count` fields. If it has another number, those of the most fields.
+/// The names of the fields of a record of a kind with `count` fields. If the kind never has `count` fields, they are the names
+/// of its longest record.
 fn names_of(kind: Kind, count: usize) -> &'static [FieldName]
     ensures names { result.now ≡ names_of kind count }
     ensures each { is_count kind count ≡ true → count ≤ length result.now }

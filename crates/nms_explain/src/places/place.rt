@@ -6,14 +6,14 @@ use super::field_name::FieldName;
 /// A field of a record.
 #[derive(Clone, Copy)]
 pub(crate) struct FieldPlace {
-    /// How many fields come before it.
+    /// How many fields of the record come before this field.
     pub(crate) place: usize,
-    /// Its name.
+    /// The name of the field.
     pub(crate) name: FieldName,
 }
 
 impl FieldPlace {
-    /// The field with a name after n others.
+    /// The field that has the given name, after n other fields of its record.
     pub(crate) fn at(place: usize, name: FieldName) -> Self
         ensures { result ≡ record { place = place; name = name } }
     {

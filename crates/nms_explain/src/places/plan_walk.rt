@@ -39,7 +39,7 @@ pub(crate) enum PlanTrouble {
 pub(crate) struct PlanWalk {
     /// The record that is due.
     pub(crate) due: PlanDue,
-    /// How many legs came, or cuts if cuts are due, at most 33.
+    /// The number of legs that came, or of cuts if cuts are due. It is not counted past the first that is too many.
     pub(crate) count: u8,
 }
 
@@ -74,7 +74,7 @@ impl PlanWalk {
         }
     }
 
-    /// The walk after a record that begins with a word.
+    /// The walk after one more record, which begins with the given word.
     fn after(self, word: &[u8]) -> Self
         ensures due { result.due ≡ due_next self.due word.now }
         ensures count { result.count ≡ min 33 (count_next self.due self.count word.now) }
@@ -96,14 +96,14 @@ impl PlanWalk {
     }
 }
 
-/// The next number, up to the first that is too many.
+/// A count of legs or cuts after one more, up to the first count that is too many.
 fn one_more(count: u8) -> u8
     ensures { result ≡ min 33 (count + 1) }
 {
     if count < MOST { count + 1 } else { MOST + 1 }
 }
 
-/// The place at which a record is wrong if another is due.
+/// The place at which a record of a plan is wrong, given which records are due; none if it is not wrong.
 fn due_place(due: PlanDue, row: &ByteRecord, roster: &Roster) -> Option<FaultPlace>
     ensures { result ≡ due_place due roster.now (fields_of row.now) }
 {
@@ -113,7 +113,7 @@ fn due_place(due: PlanDue, row: &ByteRecord, roster: &Roster) -> Option<FaultPla
     }
 }
 
-/// The record as which one that begins with the word is read, by what is due; none after the end.
+/// The sort of record as which the next one is read, by what is due and by its first word; none after the end.
 pub(crate) fn record_due(due: PlanDue, word: &[u8]) -> Option<PlanRecord>
     ensures { result ≡ record_due due word.now }
 {

@@ -167,7 +167,7 @@ fn tell_faults<W: Write>(
     Ok(Ending::SetupRefused)
 }
 
-/// Prints each of these faults.
+/// Prints each of the given faults of a mapping.
 fn tell_each<W: Write>(
     told: Told<'_>,
     draft: Draft<'_>,

@@ -36,7 +36,7 @@ fn has_other_kind(document: &Table) -> bool
     }
 }
 
-/// Whether a document has a column.
+/// Whether a mapping names a column of the vendor's file under the given key.
 fn has_column(document: &Table, key: &str) -> bool
     ensures { result ≡ has_column key.now (table_view document.now) }
 {

@@ -13,7 +13,7 @@ pub(crate) fn meant_at_top<'a>(
     Ok(meant)
 }
 
-/// Those tables, and the keys that names in each table probably mean.
+/// The tables that were found before, and the keys that unknown names in each table probably mean.
 pub(crate) fn meant_in_all<'a>(
     alloc: Global,
     draft: Draft<'a>,

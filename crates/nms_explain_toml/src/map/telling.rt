@@ -30,9 +30,9 @@ struct Refusal<'a> {
     /// The table and the key; none if the text is no document.
     table: Option<&'static str>,
     key: Option<&'a str>,
-    /// What is found there.
+    /// What is found in the text at the key.
     found: Item<'a>,
-    /// What is expected there; or the parser's message, if the text is no document.
+    /// What is expected at the key; or the parser's message, if the text is no document.
     expected: &'a str,
     /// The key that was meant, or a similar one if the key is absent.
     meant: Option<&'a str>,
@@ -291,7 +291,7 @@ pub(crate) fn tell_summary<W: Write>(
     write_plain_line(answers, told.form, &items)
 }
 
-/// The words for more faults, if there are any.
+/// The words that say that more faults were found than were printed, if that is so.
 fn more_item(more: bool) -> Item<'static>
     ensures { is_own_plain result ≡ true }
 {

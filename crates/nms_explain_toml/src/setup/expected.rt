@@ -38,7 +38,7 @@ fn unit_of(key: KnownKey) -> &'static str {
     }
 }
 
-/// The fee or the rate that is expected.
+/// The unit and the range that are expected of a fee or a rate, in words.
 fn charge_expected(
     alloc: Global,
     caps: Caps,
@@ -60,7 +60,7 @@ fn charge_expected(
     )
 }
 
-/// The name that is expected.
+/// The form that is expected of the name of a participant or a symbol, in words.
 fn name_expected(array: SetupArray) -> &'static str {
     match array {
         SetupArray::Participant => "a text in quotes, 1 to 4 of A to Z and 0 to 9",

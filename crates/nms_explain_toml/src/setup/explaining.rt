@@ -48,7 +48,7 @@ pub fn explain_setup<W: Write>(
     Ok(ending)
 }
 
-/// Reports why a setup is refused on a text that is not printed yet.
+/// Adds to a text that is printed later why a setup is refused.
 fn tell_setup(file: &str, text: &[u8], out: &mut SafeText) -> Result<Ending, AllocError>
     ensures read { IfOk result (λ ending. IsUtf8 text.now → ending ≡ ending_at (parse_document text.now)) }
     ensures no_text { IfOk result (λ ending. ¬ (IsUtf8 text.now) → ending ≡ Ending.SetupRefused) }
@@ -137,7 +137,7 @@ fn tell_document(
     }
 }
 
-/// Reports the faults that were found, and their sum.
+/// Reports the faults that were found in a setup, and returns how many there are.
 fn tell_findings(
     told: Report<'_>,
     document: &Table,
@@ -167,7 +167,7 @@ fn tell_findings(
     Ok(summary)
 }
 
-/// The fault with the lesser number of two.
+/// The one of two faults that has the lower code; the second if there is no first.
 fn lesser(least: Option<SetupFault>, fault: SetupFault) -> SetupFault {
     match least {
         Some(least) if Code::of_setup(least) <= Code::of_setup(fault) => least,

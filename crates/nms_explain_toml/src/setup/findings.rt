@@ -317,13 +317,13 @@ fn members_of(document: &Table, table: SetupTable) -> Option<&Table> {
     }
 }
 
-/// An element of one of the two arrays.
+/// The value of a participant or a symbol in a document, by its place in its array.
 fn element_of(document: &Table, table: SetupTable) -> Option<&Value> {
     let (array, place) = row_of(table)?;
     rows_at(document, array.key().text()).get(place)
 }
 
-/// The name of an element of one of the two arrays, if it has one.
+/// The name of a participant or a symbol in a document, by its place in its array, if it has a name.
 fn row_name(document: &Table, table: SetupTable) -> Option<&str> {
     name_in(element_of(document, table)?)
 }

@@ -6,7 +6,7 @@ use crate::marked::line_from;
 use crate::nest::Nest;
 use crate::toml_line::{Pair, pair_in};
 
-/// How many bytes come before an element of an array, given how many elements do.
+/// How many bytes of an array come before an element, given how many elements come before it.
 pub(crate) fn element_in(array: &[u8], place: usize) -> Option<usize>
     ensures { IfSome result (λ at. at < length array.now) }
 {

@@ -71,7 +71,7 @@ fn has_words(line: &[u8]) -> bool {
 }
 
 impl Entry {
-    /// The line; none if the text does not have it.
+    /// The bytes of the line; none if the text is too short to have it.
     fn line(self, text: &[u8]) -> Option<&[u8]>
         ensures { IfSome result (λ line. self.at.start.bytes + length line.now ≤ length text.now) }
     {
@@ -83,7 +83,7 @@ impl Entry {
         Some(&rest[..self.long])
     }
 
-    /// A key of a table, if the line has it.
+    /// The place of a key of a table, if this line has that key.
     fn key_of<'a>(self, text: &'a [u8], table: SetupTable, key: &[u8]) -> Option<Marked<'a>>
         ensures within { IfSome result (λ marked. marked.before + marked.pair.start ≤ length text.now) }
         ensures of_text { IfSome result (IsOf text.now) }
@@ -111,7 +111,7 @@ pub(crate) fn locate_key<'a>(
     Some(mark_from(text, begins + before, pair))
 }
 
-/// A key with its value in the line with a given place, by the bytes from that place on.
+/// A key with its value, marked in its line. The pair counts its bytes from the given place of the text.
 fn mark_from(text: &[u8], place: usize, pair: Pair) -> Marked<'_>
     requires within { place ≤ length text.now }
     requires pair { IsIn (length text.now - place) pair }
@@ -188,14 +188,14 @@ pub(crate) fn row_of(table: SetupTable) -> Option<(SetupArray, usize)> {
     }
 }
 
-/// A line of a setup's text.
+/// The state at the beginning of a line of a setup's text.
 #[derive(Clone, Copy)]
 struct Reached {
     /// The beginning of the line.
     start: LineStart,
     /// The table of the line, if it is one of a setup's.
     table: Option<SetupTable>,
-    /// How many headers of the two arrays come before the line.
+    /// How many headers of participants come before the line, and how many headers of symbols.
     participants: usize,
     symbols: usize,
 }
@@ -216,7 +216,7 @@ impl Reached {
         }
     }
 
-    /// A key of a table, if this line has it.
+    /// The place of a key of a table, if this line has that key.
     fn key_of<'a>(
         self,
         text: &'a [u8],
@@ -255,7 +255,7 @@ impl Reached {
         }
     }
 
-    /// The state in the table of this line, if the line is a header.
+    /// The state after the header in this line; the same state if the line is no header.
     fn entering(self, line: &[u8]) -> Reached
         requires within { self.start.bytes + length line.now < 2 ^ 64 }
         requires participants { self.participants ≤ self.start.bytes }
@@ -290,7 +290,7 @@ impl Reached {
         }
     }
 
-    /// The state in the table of a header.
+    /// The state after a header, in the table that begins with it.
     fn entered(self, name: &[u8], is_double: bool) -> Reached
         requires participants { self.participants + 1 < 2 ^ 64 }
         requires symbols { self.symbols + 1 < 2 ^ 64 }
@@ -312,7 +312,7 @@ impl Reached {
     }
 }
 
-/// Whether a place plus one is n.
+/// Whether the element at a place, counted from 0, is the last of n elements.
 fn is_next(place: usize, count: usize) -> bool {
     count > 0 && count - 1 == place
 }

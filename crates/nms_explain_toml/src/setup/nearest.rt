@@ -4,7 +4,7 @@ use nms_setup_places::{KnownKey, SetupTable};
 use std::alloc::{AllocError, Global};
 use toml::Table;
 
-/// How many keys of a table are compared.
+/// The greatest number of keys of a table that are compared with an absent key.
 const MOST_COMPARED: usize = 100;
 /// The distance of a key that is not near.
 const TOO_FAR: usize = 6;

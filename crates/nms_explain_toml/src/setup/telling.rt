@@ -22,15 +22,15 @@ pub(crate) struct Refusal<'a> {
     pub(crate) sentence: &'a str,
     /// The table; none if the text is no document.
     pub(crate) table: Option<SetupTable>,
-    /// The name in that table, if it has one.
+    /// The name of the participant or the symbol in that table, if it has one.
     pub(crate) name: Option<&'a str>,
-    /// The key, if the fault is of one.
+    /// The key that is wrong or absent, if one is.
     pub(crate) key: Option<&'a str>,
-    /// What is found there, or how many tables; nothing if the key is absent.
+    /// What is found at the refused place, or how many tables are found; nothing if a key is absent.
     pub(crate) found: Item<'a>,
-    /// What is expected there; or the parser's message, if the text is no document.
+    /// What is expected at the refused place; or the parser's message, if the text is no document.
     pub(crate) expected: &'a str,
-    /// What it probably means, or an empty text.
+    /// What the refused text probably means, or an empty text.
     pub(crate) hint: &'a str,
 }
 
@@ -141,7 +141,7 @@ pub(crate) struct Summary {
     /// How many faults there are, and how many of them were reported.
     pub(crate) faults: usize,
     pub(crate) told: usize,
-    /// The fault with the least number, by which the setup is refused.
+    /// The fault with the lowest code, by which the setup is refused; none if it has no fault.
     pub(crate) least: Option<SetupFault>,
 }
 
@@ -180,7 +180,7 @@ pub(crate) fn tell_summary(
     ])
 }
 
-/// The words before the code of a sum, if there is one.
+/// The words before the code by which a setup is refused, if it is refused.
 fn refused_by(least: Option<SetupFault>) -> Item<'static>
     ensures { is_own_plain result ≡ true }
 {
@@ -190,7 +190,7 @@ fn refused_by(least: Option<SetupFault>) -> Item<'static>
     }
 }
 
-/// The code of a sum, if there is one.
+/// The code by which a setup is refused, if it is refused.
 fn code_item(least: Option<SetupFault>) -> Item<'static>
     ensures { is_own_plain result ≡ true }
 {

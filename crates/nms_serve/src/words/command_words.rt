@@ -64,7 +64,7 @@ fn is_help(kind: ErrorKind) -> bool
     matches!(kind, ErrorKind::DisplayHelp | ErrorKind::DisplayVersion)
 }
 
-/// The request that the matches hold.
+/// The request that the parsed arguments make.
 fn request_in(alloc: Global, matches: &ArgMatches<'_>) -> Result<Request, WordsFault>
     ensures read { IfOk result (λ request. IsAsked (given_in (rows_of (found_of matches.now))) (shown request)) }
     ensures refused { IfErr result (IsFaultOf (given_in (rows_of (found_of matches.now)))) }
@@ -105,7 +105,7 @@ fn first_value<'a>(matches: &ArgMatches<'a>, name: &str) -> Option<&'a str>
     matches.get_str(name)
 }
 
-/// Whether the matches hold the flag. The parser gives it the text `true` or `false`.
+/// Whether a flag was given. The parser gives a flag the text `true` or `false`.
 fn is_flagged(matches: &ArgMatches<'_>, name: &str) -> bool
     ensures { result ≡ is_flagged (rows_of (found_of matches.now)) name.now }
 {
@@ -184,7 +184,7 @@ fn feeds_in(alloc: Global, values: &[&str]) -> Result<Vec<FeedPath>, WordsFault>
     Ok(feeds)
 }
 
-/// Whether any of the feeds has the place.
+/// Whether one of the feeds already has the given place, which is 0 for `A` to 7 for `H`.
 fn has_place(feeds: &[FeedPath], place: u8) -> bool
     ensures { result ≡ list_any (λ feed. feed.place == place) feeds.now }
 {

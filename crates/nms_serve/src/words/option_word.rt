@@ -4,9 +4,9 @@ use clap::ArgAction;
 /// An option, with its explanation in the help.
 pub(crate) struct OptionWord {
     pub(crate) name: &'static str,
-    /// The names of its values in the help; none for a flag.
+    /// The names of the option's values in the help; none for a flag.
     pub(crate) values: &'static [&'static str],
-    /// The action of its use; none if it has one value and is given once.
+    /// What the parser does with the option; none if it has one value and is given once.
     pub(crate) action: Option<ArgAction>,
     /// Whether the option has to be given.
     pub(crate) required: bool,

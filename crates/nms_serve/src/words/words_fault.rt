@@ -27,7 +27,7 @@ impl WordsFault {
     ghost use Rattle.std.specs.Prelude.{◌≡◌};
     ghost use Rattle.nms_serve.specs.Faults.{status_of};
 
-    /// The exit status of a program that ends with it: 2 for arguments, 5 for memory.
+    /// The exit status of a program that ends with this fault: 2 for arguments, 5 for memory.
     pub fn status(&self) -> u8
         ensures { result ≡ status_of self.now }
     {

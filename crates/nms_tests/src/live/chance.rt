@@ -13,7 +13,7 @@ use std::sync::atomic::{AtomicU64, Ordering};
 use std::thread;
 use std::thread::Threads;
 
-/// Draws up to 6 orders of some of the desks.
+/// Draws up to 6 orders, each for a desk drawn from n.
 fn drawn_orders<R: Abort>(rt: &R, alloc: Global, chance: &mut Chance, desks: u32) -> Vec<Wanted> {
     let mut table = Vec::new(alloc);
     for _ in 0..chance.draw() % 7 {
@@ -31,7 +31,8 @@ fn drawn_orders<R: Abort>(rt: &R, alloc: Global, chance: &mut Chance, desks: u32
     table
 }
 
-/// Makes a desk's looks wait until n changes were sent, more for each look, or all.
+/// A gate that makes a desk wait before a look. Look k waits until k times a given number of changes were sent, but for no more
+/// than all.
 #[derive(Drop)]
 struct Paced {
     sent: AtomicU64,
@@ -40,7 +41,7 @@ struct Paced {
 }
 
 impl Paced {
-    /// Waits for n changes, and reports whether they were sent.
+    /// Waits for n changes to be sent, and reports whether they were. It gives up after 1,000 attempts.
     fn has_sent(&self, count: u64) -> bool {
         for _ in 0..1000u32 {
             if count <= self.sent.load(Ordering::SeqCst) {
@@ -70,7 +71,7 @@ impl Gate for Paced {
     }
 }
 
-/// The refusal of the first wrong record of the first feed that has one.
+/// The refusal that has to end a run: it is of the first feed with a wrong record, and of that feed's first one.
 fn first_refusal(sent: &[Sent]) -> Option<LiveFault> {
     for (place, own) in sent.iter().enumerate() {
         if let Some(fault) = own.fault {
@@ -95,7 +96,7 @@ fn all_of<R: Abort>(rt: &R, sent: &[Sent]) -> u64 {
     all
 }
 
-/// The fault that has to end the run, if there is one.
+/// The fault that has to end the run: the first refused record, or else a full tape. `None` if the run has to succeed.
 fn due<R: Abort>(rt: &R, sent: &[Sent], limit: u64) -> Option<LiveFault> {
     match first_refusal(sent) {
         Some(fault) => Some(fault),
@@ -113,7 +114,7 @@ pub(crate) struct Limits {
     pub(crate) feeds: u8,
 }
 
-/// Draws limits with which some runs end in a full tape.
+/// Draws the limits of a setup. In about one setup in four the tape is so short that it may become full.
 fn drawn_limits(chance: &mut Chance) -> Limits {
     let tape = if chance.draw() % 4 == 0 {
         (chance.draw() % 40).wrapping_add(1)
@@ -128,7 +129,7 @@ fn drawn_limits(chance: &mut Chance) -> Limits {
     }
 }
 
-/// A setup of these limits, with two participants on each feed.
+/// The text of a setup with these limits and two participants on each feed.
 pub(crate) fn setup_of<R: Abort>(rt: &R, alloc: Global, limits: Limits) -> String {
     let Limits {
         tape,
@@ -149,7 +150,7 @@ pub(crate) fn setup_of<R: Abort>(rt: &R, alloc: Global, limits: Limits) -> Strin
     text
 }
 
-/// Adds the participant at a place to a setup.
+/// Adds the participant at a place to the text of a setup.
 fn add_participant<R: Abort>(rt: &R, alloc: Global, text: &mut String, part: u8) {
     let name = part_name(part);
     let letters = ["A", "B", "C", "D", "E", "F", "G", "H"];
@@ -204,7 +205,7 @@ fn try_feeds<R: Threads + Wait + Abort + Sync>(
     try_orders(rt, alloc, limits, sent, &table, pace)
 }
 
-/// Makes the run over the text of a setup of these limits.
+/// Makes the run under the setup that a text with the drawn limits gives.
 fn try_orders<R: Threads + Wait + Abort + Sync>(
     rt: &R,
     alloc: Global,
@@ -218,7 +219,7 @@ fn try_orders<R: Threads + Wait + Abort + Sync>(
     try_under(rt, alloc, setup.as_str(), sent, table, pace, due)
 }
 
-/// The texts of the feeds.
+/// The text that each feed sends, in order of feed.
 fn texts_of<'s, R: Abort>(rt: &R, alloc: Global, sent: &'s [Sent]) -> Vec<&'s [u8]> {
     let mut texts = Vec::new(alloc);
     for own in sent {
@@ -227,7 +228,8 @@ fn texts_of<'s, R: Abort>(rt: &R, alloc: Global, sent: &'s [Sent]) -> Vec<&'s [u
     texts
 }
 
-/// Makes the run over a setup's text. Returns what is wrong with its result, if this fault has to end it.
+/// Makes the run under a setup. Returns what is wrong with its result; empty if nothing is. The run has to end with the given
+/// fault, if there is one.
 fn try_under<R: Threads + Wait + Abort + Sync>(
     rt: &R,
     alloc: Global,

@@ -6,8 +6,8 @@ use nms_units::{Lot, Price, Shares};
 use std::alloc::Global;
 use std::process::Abort;
 
-/// A record in numbers. For each side it has the cents over 10 dollars, below 10, and the shares. For a new round lot it has
-/// the place among those that are drawn.
+/// A record as numbers. For each side it has the cents over 10 dollars, 0 to 9, and the shares. For a new round lot it has a
+/// place in the list of lots.
 #[derive(Clone, Copy)]
 struct Record {
     kind: u32,
@@ -26,7 +26,7 @@ fn drawn_side(chance: &mut Chance) -> (u32, u32) {
     (cents, shares)
 }
 
-/// Draws a record of a feed. It is of one of its two participants, or a new round lot, which only feed A has.
+/// Draws a record of a feed: of one of the feed's two participants, or a new round lot. Only feed A has new round lots.
 fn drawn_record(chance: &mut Chance, feed: Feed) -> Record {
     let first = feed.place().wrapping_mul(2);
     let kinds = if feed == Feed::A { 18 } else { 16 };
@@ -48,7 +48,8 @@ fn drawn_record(chance: &mut Chance, feed: Feed) -> Record {
     }
 }
 
-/// A new round lot, and its field or fields. There are averages at each boundary.
+/// A new round lot in shares, and the text that gives it. Some texts give it by an average price, at and just above each
+/// boundary.
 fn lot_of(place: u32) -> (u16, &'static str) {
     match place {
         0 => (1, "1"),
@@ -66,7 +67,7 @@ fn lot_of(place: u32) -> (u16, &'static str) {
     }
 }
 
-/// A state, and its field.
+/// A state of a quotation, and the letter that gives it. Numbers 0 to 5 are automated, 6 is manual, any other is halted.
 fn state_of(state: u32) -> (QState, &'static str) {
     match state {
         0..=5 => (QState::Automated, "A"),
@@ -75,7 +76,7 @@ fn state_of(state: u32) -> (QState, &'static str) {
     }
 }
 
-/// The quotation of a side.
+/// The quotation of a side at some cents over 10 dollars. `None` for 0 shares.
 fn side_of((cents, shares): (u32, u32)) -> Option<SideQuote> {
     let price = cents.wrapping_mul(100).wrapping_add(100_000);
     SideQuote::new(Price::new(u64::from(price))?, Shares::new(shares)?)
@@ -124,14 +125,14 @@ fn sym_name(sym: u16) -> &'static str {
     if sym == 0 { "ABC" } else { "PNY" }
 }
 
-/// Adds words to a text.
+/// Adds words to a text, one after another, with nothing between them.
 fn add<R: Abort>(rt: &R, text: &mut Vec<u8>, words: &[&str]) {
     for word in words {
         text.extend_from_slice(word.as_bytes()).expect(rt, "memory");
     }
 }
 
-/// A number of shares that is drawn, as a text.
+/// The text of a number of shares that may be drawn.
 fn shares_text(shares: u32) -> &'static str {
     match shares {
         150 => "150",
@@ -140,7 +141,7 @@ fn shares_text(shares: u32) -> &'static str {
     }
 }
 
-/// Adds the two fields of a side, of less than 10 cents.
+/// Adds the fields of a side, its price and its shares. The price is less than 10 cents over 10 dollars.
 fn add_side<R: Abort>(rt: &R, text: &mut Vec<u8>, (cents, shares): (u32, u32)) {
     if shares == 0 {
         add(rt, text, &[","]);
@@ -152,7 +153,7 @@ fn add_side<R: Abort>(rt: &R, text: &mut Vec<u8>, (cents, shares): (u32, u32)) {
     }
 }
 
-/// Adds a quotation.
+/// Adds the record of a quotation to a text.
 fn add_quote<R: Abort>(rt: &R, text: &mut Vec<u8>, record: &Record) {
     let (part, sym) = (part_name(record.part), sym_name(record.sym));
     let (_, state) = state_of(record.state);
@@ -162,7 +163,7 @@ fn add_quote<R: Abort>(rt: &R, text: &mut Vec<u8>, record: &Record) {
     add_side(rt, text, record.offer);
 }
 
-/// Adds a record.
+/// Adds the record of a change to a text.
 fn add_text<R: Abort>(rt: &R, text: &mut Vec<u8>, record: &Record) {
     let (part, sym) = (part_name(record.part), sym_name(record.sym));
     let (_, state) = state_of(record.state);
@@ -175,8 +176,8 @@ fn add_text<R: Abort>(rt: &R, text: &mut Vec<u8>, record: &Record) {
     }
 }
 
-/// A record that is refused: the text before the participant, whether the participant is of the feed, the text after it, and
-/// the fault.
+/// A record that is refused, in parts: the text before the participant's name, whether the participant is of the feed, and the
+/// rest of the text. The last part is the fault.
 fn refused(number: u32) -> (&'static str, bool, &'static str, LineFault) {
     match number {
         0 => ("T,", true, "", LineFault::UnknownKind),
@@ -193,7 +194,8 @@ fn refused(number: u32) -> (&'static str, bool, &'static str, LineFault) {
     }
 }
 
-/// A new round lot that is refused, of feed A or of another: the record and the fault.
+/// The record of a new round lot that is refused, and its fault. A lot out of its range is a bad lot on feed A. On any other feed
+/// the same record has a wrong feed.
 fn refused_lot(number: u32, feed: Feed) -> (&'static str, LineFault) {
     let own = if feed == Feed::A {
         LineFault::BadLot
@@ -211,7 +213,7 @@ fn refused_lot(number: u32, feed: Feed) -> (&'static str, LineFault) {
     }
 }
 
-/// A participant of the feed, or of the feed before it; before feed A that is feed B.
+/// The name of a participant of the feed, or of a participant of the feed before it. The feed before feed A is here feed B.
 fn named(feed: Feed, is_own: bool) -> &'static str {
     let place = match (is_own, feed) {
         (true, _) => feed.place(),
@@ -221,7 +223,7 @@ fn named(feed: Feed, is_own: bool) -> &'static str {
     part_name(place.wrapping_mul(2))
 }
 
-/// Adds a refused record, and gives its fault.
+/// Adds a record that is refused to a feed's text, and returns its fault.
 fn add_refused_text<R: Abort>(rt: &R, text: &mut Vec<u8>, number: u32, feed: Feed) -> LineFault {
     if number > 10 {
         let (line, fault) = refused_lot(number, feed);
@@ -234,7 +236,7 @@ fn add_refused_text<R: Abort>(rt: &R, text: &mut Vec<u8>, number: u32, feed: Fee
     }
 }
 
-/// A feed's text, its changes up to the first record that is refused, and why that one is.
+/// A feed's text, the changes up to the first record that is refused, and the fault of that record.
 #[derive(Drop)]
 pub(crate) struct Sent {
     pub(crate) text: Vec<u8>,
@@ -242,8 +244,7 @@ pub(crate) struct Sent {
     pub(crate) fault: Option<LineFault>,
 }
 
-/// The end of a line. One in eight is `\r
-/// `, and after another one there is a blank line.
+/// The end of a line. One in eight has a carriage return before its line feed, and one in eight has a blank line after it.
 fn end_of(end: u32) -> &'static str {
     match end {
         0 => "\r\n",
@@ -252,7 +253,7 @@ fn end_of(end: u32) -> &'static str {
     }
 }
 
-/// Adds a record of the feed.
+/// Adds a drawn record to a feed's text, and its change to the feed's changes.
 fn add_record<R: Abort>(rt: &R, chance: &mut Chance, feed: Feed, sent: &mut Sent) {
     let record = drawn_record(chance, feed);
     add_text(rt, &mut sent.text, &record);
@@ -265,7 +266,7 @@ fn add_record<R: Abort>(rt: &R, chance: &mut Chance, feed: Feed, sent: &mut Sent
     }
 }
 
-/// Adds a record that is refused. If there is only one feed, no record is of another.
+/// Adds a record that is refused to a feed's text. If there is only one feed, no record names a participant of another feed.
 fn add_refused<R: Abort>(rt: &R, chance: &mut Chance, feed: Feed, is_alone: bool, sent: &mut Sent) {
     let number = chance.draw() % 18;
     let number = if is_alone && number >= 8 && number <= 10 {

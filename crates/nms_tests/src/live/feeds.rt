@@ -11,7 +11,7 @@ use std::process::Abort;
 use std::sync::Wait;
 use std::thread::Threads;
 
-/// The worked run's participants, of which N, P, Y and Z are on these feeds.
+/// The text of a setup in which the participants N, P, Y and Z are on the given feeds.
 fn worked_setup<R: Abort>(rt: &R, alloc: Global, feeds: u8, letters: [&str; 4]) -> String {
     let [n, p, y, z] = letters;
     format!(in alloc;
@@ -25,7 +25,8 @@ fn worked_setup<R: Abort>(rt: &R, alloc: Global, feeds: u8, letters: [&str; 4]) 
     .expect(rt, "memory")
 }
 
-/// The worked run over these feeds.
+/// Runs the given feeds with an order of desk 0 to buy 600 ABC at 10.01 or better. N, P, Y and Z are on the feeds with the given
+/// letters.
 fn run_worked<R: Threads + Wait + Abort + Sync>(
     rt: &R,
     alloc: Global,
@@ -54,7 +55,7 @@ fn three_feeds_come_to_one_tape(rt: HostRuntime) {
     compare_three(&rt, rt.alloc(), &live);
 }
 
-/// Compares the result of three feeds.
+/// Compares the tape and the answers of a run of three feeds with the expected ones.
 fn compare_three<R: Abort>(rt: &R, alloc: Global, live: &Live) {
     let tape = live.tape.as_slice();
     same(rt, tape.len(), 4);
@@ -71,7 +72,7 @@ fn one_feed_is_the_tape(rt: HostRuntime) {
     compare_one(&rt, rt.alloc(), &live);
 }
 
-/// Compares the result of one feed.
+/// Compares the tape and the answers of a run of one feed with the expected ones.
 fn compare_one<R: Abort>(rt: &R, alloc: Global, live: &Live) {
     let tape = live.tape.as_slice();
     for part in 0..4u8 {
@@ -89,7 +90,7 @@ fn eight_feeds_of_which_six_send_nothing(rt: HostRuntime) {
     compare_eight(&rt, rt.alloc(), &live);
 }
 
-/// Compares the result of eight feeds.
+/// Compares the tape and the answers of a run of eight feeds with the expected ones.
 fn compare_eight<R: Abort>(rt: &R, alloc: Global, live: &Live) {
     same(rt, has_four(&live.tape, &live.published), true);
     same(rt, first_told(&live.closing), Some((0, 0, 4, 600)));
@@ -135,7 +136,7 @@ fn changes_of<R: Abort>(rt: &R, alloc: Global, part: &str, count: u32) -> Vec<u8
     text
 }
 
-/// Lets no feed go on before its last change was published, so that each change is published separately, or nearly so.
+/// A gate that holds a feed until the feed's last change was published. So each change is published separately, or nearly so.
 #[derive(Drop)]
 struct Stepped {
     published: std::sync::atomic::AtomicU64,
@@ -197,7 +198,7 @@ fn run_all<R: Threads + Wait + Abort + Sync>(rt: &R, alloc: Global, each: u32) -
     run(rt, alloc, setup.as_str(), &feeds, &table, &gate).expect(rt, "a run")
 }
 
-/// Each text as bytes.
+/// Lends each text as bytes, without a copy.
 fn slices_of<'t, R: Abort>(rt: &R, alloc: Global, texts: &'t [Vec<u8>]) -> Vec<&'t [u8]> {
     let mut slices = Vec::new(alloc);
     for text in texts {

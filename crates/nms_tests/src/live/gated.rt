@@ -1,4 +1,4 @@
-//! Counting the calls to a gate, which come before each send, look and publishing of the run once, and after it.
+//! Tests of the calls to a gate. The gate is called once before each send, look and publishing of a run, and once after it.
 use super::worked::{FIVE, first_told, order};
 use super::{Wanted, run, setup_text};
 use crate::same::same;
@@ -11,7 +11,7 @@ use std::sync::atomic::{AtomicBool, AtomicU64, Ordering};
 use std::thread;
 use std::thread::Threads;
 
-/// Counts the calls before and after looks.
+/// A gate that is always open, and counts the calls before and after looks.
 #[derive(Drop)]
 struct Counting {
     asked: AtomicU64,
@@ -33,7 +33,7 @@ impl Gate for Counting {
     }
 }
 
-/// A run through a lane of 16.
+/// Makes a live run under a setup with room for 16 changes in its queue, and two desks.
 fn run_small<R: Threads + Wait + Abort + Sync, G: Gate>(
     rt: &R,
     alloc: Global,
@@ -58,7 +58,7 @@ fn closing_looks_do_not_pass_the_gate(rt: HostRuntime) {
     compare_counts(&rt, &gate, &live);
 }
 
-/// Compares how many answers there are, and how many calls came before and after looks.
+/// Compares the number of answers, and the number of calls before and after looks, with the expected three.
 fn compare_counts<R: Abort>(rt: &R, gate: &Counting, live: &Live) {
     same(rt, (live.answers.len(), live.closing.len()), (3, 3));
     let asked = gate.asked.load(Ordering::SeqCst);
@@ -66,8 +66,8 @@ fn compare_counts<R: Abort>(rt: &R, gate: &Counting, live: &Live) {
     same(rt, (asked, told), (3, 3));
 }
 
-/// After a send, a publishing and a look it holds the thread until the next one of them was made. So the next one finds the one
-/// before it made.
+/// A gate that holds each thread after its action until the next thread has acted. The first send waits for its publishing, the
+/// publishing for a look, and the look for the second publishing.
 #[derive(Drop)]
 struct Relay {
     published_first: AtomicBool,
@@ -76,7 +76,7 @@ struct Relay {
     gave_up: AtomicBool,
 }
 
-/// A gate that no thread has reached.
+/// A relay at the start of a run, when no thread has reached it.
 fn make_relay() -> Relay {
     Relay {
         published_first: AtomicBool::new(false),
@@ -86,18 +86,18 @@ fn make_relay() -> Relay {
     }
 }
 
-/// Whether a flag is set.
+/// Whether a thread has set a flag of the gate.
 fn is_set(flag: &AtomicBool) -> bool {
     flag.load(Ordering::SeqCst)
 }
 
-/// Sets a flag.
+/// Sets a flag of the gate, for all threads to see.
 fn set(flag: &AtomicBool) {
     flag.store(true, Ordering::SeqCst);
 }
 
 impl Relay {
-    /// Waits until a flag is set.
+    /// Waits until another thread sets a flag. After 1,000,000 attempts it gives up, and notes that.
     fn wait(&self, flag: &AtomicBool) {
         for _ in 0..1_000_000u32 {
             if is_set(flag) {
@@ -145,8 +145,8 @@ fn a_gate_learns_of_what_was_made(rt: HostRuntime) {
     compare_relayed(&rt, &gate, &live.answers);
 }
 
-/// Compares the result. The first send was taken and published while the feed waited. The look showed it, and not the second
-/// one, while the taker waited. The second one was published while the desk waited.
+/// Compares the result of the relay. While feed A waited, its first change was published. While the taker waited, the desk saw
+/// that change and no other. While the desk waited, the second change was published.
 fn compare_relayed<R: Abort>(rt: &R, gate: &Relay, answers: &[Answer]) {
     same(rt, is_set(&gate.gave_up), false);
     same(rt, first_told(answers), Some((0, 0, 1, 100)));

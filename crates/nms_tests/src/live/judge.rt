@@ -18,7 +18,7 @@ fn feed_of(change: &Change) -> usize {
     }
 }
 
-/// Whether the tape has the changes of a feed, in order, and no others of it.
+/// Whether a tape has exactly the changes that a feed sent, in the order in which it sent them.
 fn has_all_of(tape: &[Change], feed: usize, sent: &[Change]) -> bool {
     let mut rest = sent.iter();
     for change in tape {
@@ -29,7 +29,7 @@ fn has_all_of(tape: &[Change], feed: usize, sent: &[Change]) -> bool {
     rest.next().is_none()
 }
 
-/// Whether the tape has the changes of all feeds, those of each in order, and no others.
+/// Whether the tape has the changes of all feeds and no others. Those of each feed have to be in the order in which it sent them.
 fn is_merge(tape: &[Change], sent: &[Sent]) -> bool {
     let mut others = tape.len();
     for (feed, own) in sent.iter().enumerate() {
@@ -44,7 +44,8 @@ fn is_merge(tape: &[Change], sent: &[Sent]) -> bool {
     others == 0
 }
 
-/// The most changes that are appended between two publishings. It is the number of the rule, not of the program.
+/// The most changes that may be appended between two publishings. The number is taken from the rule, not from the program that is
+/// tested.
 const MOST_BETWEEN: u64 = 64;
 
 /// Whether each publishing shows up to 64 changes more than the one before it, and the last one shows all of them. Only the
@@ -63,14 +64,14 @@ fn rises_to(published: &[u64], all: u64) -> bool {
     *end == all && last <= *end && *end - last <= MOST_BETWEEN
 }
 
-/// Whether the answer is to this order of the table.
+/// Whether an answer is for a given order, by its desk, its number and the order itself.
 fn is_for(answer: &Answer, number: usize, wanted: &Wanted) -> bool {
     answer.desk == wanted.desk
         && answer.number == number
         && order_of(wanted) == Some(answer.plan.order)
 }
 
-/// Whether each order has its answer, in order.
+/// Whether each order of a table has one answer, and the answers are in the order of the table.
 fn answers_all(answers: &[Answer], table: &[Wanted]) -> bool {
     for (number, (answer, wanted)) in answers.iter().zip(table).enumerate() {
         if !is_for(answer, number, wanted) {
@@ -80,7 +81,7 @@ fn answers_all(answers: &[Answer], table: &[Wanted]) -> bool {
     answers.len() == table.len()
 }
 
-/// Whether the versions of a desk's answers never fall.
+/// Whether the versions that a desk's answers are on never fall.
 fn never_goes_back(desk: u8, answers: &[Answer]) -> bool {
     let mut last = 0;
     for answer in answers {
@@ -94,7 +95,7 @@ fn never_goes_back(desk: u8, answers: &[Answer]) -> bool {
     true
 }
 
-/// Whether no desk goes back to an older version.
+/// Whether none of the desks answers on an older version than it did before.
 fn nobody_goes_back(answers: &[Answer]) -> bool {
     for desk in 0..16u8 {
         if !never_goes_back(desk, answers) {
@@ -104,7 +105,7 @@ fn nobody_goes_back(answers: &[Answer]) -> bool {
     true
 }
 
-/// Whether the version of each answer is the empty one or was published.
+/// Whether each answer is on a version that was published, or on version 0, the empty one.
 fn are_published(answers: &[Answer], published: &[u64]) -> bool {
     for answer in answers {
         let version = answer.plan.version;
@@ -115,7 +116,7 @@ fn are_published(answers: &[Answer], published: &[u64]) -> bool {
     true
 }
 
-/// Whether each answer is on the version with this length.
+/// Whether each answer is on the version with n changes.
 fn are_all_on(answers: &[Answer], all: u64) -> bool {
     for answer in answers {
         if answer.plan.version != all {
@@ -134,8 +135,8 @@ fn apply_first(boards: &mut Boards, tape: &[Change], count: u64) {
     }
 }
 
-/// Whether the checker confirms an answer on an empty board after the first changes of the tape. Their number is the answer's
-/// version.
+/// Whether the checker confirms an answer on the view that the first changes of the tape give. The answer's version says how many
+/// changes these are.
 fn is_confirmed_on(mut boards: Boards, fees: &FeeBook, tape: &[Change], answer: &Answer) -> bool {
     let plan = &answer.plan;
     apply_first(&mut boards, tape, plan.version);
@@ -143,8 +144,7 @@ fn is_confirmed_on(mut boards: Boards, fees: &FeeBook, tape: &[Change], answer: 
     confirm(&view, &plan.order, fees, plan, &answer.certificate).is_ok()
 }
 
-/// Whether the checker confirms an answer on another board, and a plain look at each earlier change shows what the answer's
-/// legs take.
+/// Whether the checker confirms an answer. A plain slow look at the tape also has to show the shares that the answer's legs take.
 fn is_confirmed(alloc: Global, setup: &Setup, tape: &[Change], answer: &Answer) -> bool {
     match Boards::new(alloc, setup.roster()) {
         Ok(boards) => {
@@ -196,7 +196,7 @@ fn answer_finding(
     }
 }
 
-/// What is wrong with a run over a setup's text, if the feeds sent these changes; empty if nothing is.
+/// What is wrong with a run under the setup that a text gives, if the feeds sent the given changes; empty if nothing is.
 pub(crate) fn finding(
     alloc: Global,
     setup: &str,
@@ -210,7 +210,7 @@ pub(crate) fn finding(
     }
 }
 
-/// What is wrong with a run; empty if nothing is.
+/// What is wrong with a run under a setup; empty if nothing is.
 fn finding_under(
     alloc: Global,
     setup: &Setup,

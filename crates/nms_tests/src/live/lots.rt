@@ -11,7 +11,7 @@ use std::sync::Wait;
 use std::sync::atomic::{AtomicU64, Ordering};
 use std::thread::Threads;
 
-/// Makes feed A and a desk take turns. Each look is made on what was published after one more change.
+/// A gate that makes feed A and a desk take turns. Before each look one more change is published.
 #[derive(Drop)]
 struct Turns {
     looked: AtomicU64,
@@ -40,12 +40,12 @@ impl Gate for Turns {
     }
 }
 
-/// N offers 290 shares and P offers 250 at the same price. Under a lot of 100 both show 200, and N was first. Under one of 40 N
-/// shows 280 and P 240. Under one of 300 neither shows. Under one of 10, by an average, both show all.
+/// N offers 290 shares and P offers 250 at the same price. Under a round lot of 100 both show 200, and N ranks first by time.
+/// Under 40, N shows 280 and P 240. Under 300, neither shows. Under 10, which an average price gives, both show all.
 const FEED: &[u8] =
     b"Q,N,ABC,A,,,10.00,290\nQ,P,ABC,A,,,10.00,250\nR,ABC,40\nR,ABC,300\nR,PNY,1\nR,ABC,AVG,10000.0000\n";
 
-/// The result of a run over that feed, with an order for each of its changes.
+/// Runs a feed of six changes, four of them new round lots. A desk answers the same order after each change.
 fn run_lots<R: Threads + Wait + Abort + Sync>(rt: &R, alloc: Global) -> Live {
     let gate = Turns {
         looked: AtomicU64::new(0),
@@ -55,7 +55,7 @@ fn run_lots<R: Threads + Wait + Abort + Sync>(rt: &R, alloc: Global) -> Live {
     run(rt, alloc, SETUP_K, &[FEED, b""], &table, &gate).expect(rt, "a run")
 }
 
-/// The shares of a leg to the participant at a place, and 0 if there is none.
+/// How many shares a plan's legs send to the participant at a place.
 fn shares_to(legs: &[Leg], part: u8) -> u32 {
     for leg in legs {
         if leg.part.get() == part {
@@ -71,7 +71,7 @@ fn taken(answer: &Answer) -> (u32, u32) {
     (shares_to(legs, 0), shares_to(legs, 1))
 }
 
-/// Compares each look with the expected view after n changes, and the closing answers with the last of them.
+/// Compares the shares taken after each change with the expected ones, and those of the closing answers with the last.
 fn compare_lots<R: Abort>(rt: &R, live: &Live) {
     let due = [(200, 0), (200, 200), (280, 240), (0, 0), (0, 0), (290, 250)];
     for (answer, (version, shares)) in live.answers.iter().zip((1..7u64).zip(due)) {

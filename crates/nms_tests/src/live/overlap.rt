@@ -10,7 +10,7 @@ use std::process::Abort;
 use std::sync::atomic::{AtomicBool, Ordering};
 use std::thread;
 
-/// A meeting at which a thread waits for the others.
+/// The notes of one thread about a meeting: whether it came, and whether it gave up waiting for the others.
 #[derive(Drop)]
 struct Meeting {
     there: AtomicBool,
@@ -24,7 +24,7 @@ fn make_meeting() -> Meeting {
     }
 }
 
-/// Lets both feeds and the desk meet, then lets them take turns.
+/// A gate at which both feeds and the desk first meet. Then it lets them take turns.
 #[derive(Drop)]
 struct Overlap {
     feed_a: Meeting,
@@ -49,7 +49,7 @@ impl Overlap {
         is_set(&self.feed_a.there) && is_set(&self.feed_b.there) && is_set(&self.desk.there)
     }
 
-    /// Waits for the others, and reports whether they came. Once it has given up, it reports that at once.
+    /// Waits for the other two threads, and reports whether they came. A thread that has given up once does not wait again.
     fn meets(&self, here: &Meeting) -> bool {
         if is_set(&here.gave_up) {
             return false;
@@ -97,7 +97,7 @@ impl Gate for Overlap {
     }
 }
 
-/// A gate that no thread has reached.
+/// A gate at the start of a run, when no thread has reached it.
 fn make_gate() -> Overlap {
     Overlap {
         feed_a: make_meeting(),
@@ -110,12 +110,12 @@ fn make_gate() -> Overlap {
     }
 }
 
-/// Whether a worker never came to its first point, or gave up there.
+/// Whether a thread never came to the meeting, or gave up there.
 fn missed(meeting: &Meeting) -> bool {
     !is_set(&meeting.there) || is_set(&meeting.gave_up)
 }
 
-/// Whether the answers are these, and no others.
+/// Whether there are exactly two answers, with the given desks, numbers, versions and shares.
 fn are_told(answers: &[Answer], wanted: [(u8, usize, u64, u32); 2]) -> bool {
     let [first, second] = wanted;
     match answers {

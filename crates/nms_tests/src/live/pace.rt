@@ -1,4 +1,4 @@
-//! How far the feeds get ahead: the room of the lane, and how much is appended between two publishings.
+//! How far the feeds may get ahead: how many changes the lane holds, and how many are appended between two publishings.
 use super::{run, setup_text};
 use crate::same::same;
 use nms_live::{Gate, GatePoint};
@@ -9,7 +9,7 @@ use std::sync::Wait;
 use std::sync::atomic::{AtomicBool, Ordering};
 use std::thread::Threads;
 
-/// Holds the taker at its first publishing, with one change taken, until feed A has sent n more.
+/// A gate that holds the taker before its first publishing, with one change taken. It opens when feed A has sent n more.
 #[derive(Drop)]
 struct Held {
     more: u64,
@@ -17,7 +17,7 @@ struct Held {
     is_sent: AtomicBool,
 }
 
-/// A gate that no thread has reached.
+/// A gate at the start of a run, when no thread has reached it.
 fn make_held(more: u64) -> Held {
     Held {
         more,
@@ -45,7 +45,7 @@ impl Gate for Held {
     }
 }
 
-/// A change of one participant, and n more.
+/// The text of a feed with n + 1 quotations of one participant.
 fn changes<R: Abort>(rt: &R, alloc: Global, more: u64) -> Vec<u8> {
     let mut text = Vec::new(alloc);
     for _ in 0..=more {
@@ -55,7 +55,8 @@ fn changes<R: Abort>(rt: &R, alloc: Global, more: u64) -> Vec<u8> {
     text
 }
 
-/// The publishings if feed A sends one change and then more, all while the taker is held, through a lane of that capacity.
+/// The versions that are published if feed A sends n + 1 changes. The taker waits after the first one until the others are sent.
+/// The lane has a given capacity.
 fn published<R: Threads + Wait + Abort + Sync>(
     rt: &R,
     alloc: Global,
@@ -66,7 +67,8 @@ fn published<R: Threads + Wait + Abort + Sync>(
     published_under(rt, alloc, setup.as_str(), more)
 }
 
-/// As `published`, over a setup's text.
+/// The versions that are published under the setup that a text gives. The taker waits after the first change until n more are
+/// sent.
 fn published_under<R: Threads + Wait + Abort + Sync>(
     rt: &R,
     alloc: Global,
@@ -85,7 +87,7 @@ fn published_under<R: Threads + Wait + Abort + Sync>(
 #[test]
 fn the_taker_publishes_after_64_changes_and_when_the_lane_is_empty(rt: HostRuntime) {
     let lengths = published(&rt, rt.alloc(), 1024, 200).expect(&rt, "a run");
-    // These are the first change, then 64 at a time of those in the lane, then the 8 that were left, and the end.
+    // The versions are the first change, then 64 more at a time, then the last 8, and at the end the same version again.
     let due = [1u64, 65, 129, 193, 201, 201];
     same(&rt, lengths.as_slice(), due.as_slice());
 }

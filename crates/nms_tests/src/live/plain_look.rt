@@ -1,8 +1,8 @@
 //! A plain slow look at a participant's side after each change of a tape, without a board.
 use nms_quote::{Change, Leg, Order, OrderSide, Part, Plan, QState, SideQuote};
 
-/// The state of a participant's side of a symbol: the symbol's lot, the state, and the price and shares of the side, both 0 for
-/// no quotation.
+/// What a tape says of a participant's side of a symbol: the round lot, whether the side is halted, and its price and shares. The
+/// price and shares are 0 if there is no quotation.
 #[derive(Drop)]
 struct Known {
     lot: u16,
@@ -11,7 +11,7 @@ struct Known {
     shares: u32,
 }
 
-/// The price and the shares of a side, and 0 if there is no quotation.
+/// The price and the shares of a side; both are 0 if there is no quotation.
 fn content_of(quote: &Option<SideQuote>) -> (u64, u32) {
     match quote {
         Some(quote) => (quote.price.get(), quote.shares.get()),
@@ -19,7 +19,8 @@ fn content_of(quote: &Option<SideQuote>) -> (u64, u32) {
     }
 }
 
-/// Takes one change in, if it is about the participant or the symbol, for the side that an order takes from.
+/// Takes a change into account if it is about the order's symbol or the participant. Only the side that the order trades with
+/// counts.
 fn follow(side: &mut Known, change: &Change, order: &Order, who: Part) {
     match *change {
         Change::Quote {
@@ -49,7 +50,7 @@ fn follow(side: &mut Known, change: &Change, order: &Order, who: Part) {
     }
 }
 
-/// Whether a leg takes only whole lots of what its participant quotes after n changes, at its price.
+/// Whether a leg takes no more than the displayed round lots of its participant after n changes, at its price.
 fn is_shown(tape: &[Change], count: u64, order: &Order, leg: &Leg) -> bool {
     let mut side = Known {
         lot: 100,
@@ -67,7 +68,7 @@ fn is_shown(tape: &[Change], count: u64, order: &Order, leg: &Leg) -> bool {
     !side.is_halted && leg.price.get() == side.price && leg.shares.get() <= displayed
 }
 
-/// Whether each leg of a plan takes shown shares. The setups of all runs open with lots of 100.
+/// Whether each leg of a plan takes displayed shares. All setups of the runs open with round lots of 100 shares.
 pub(crate) fn are_shown(tape: &[Change], plan: &Plan) -> bool {
     for leg in plan.legs.as_slice() {
         if !is_shown(tape, plan.version, &plan.order, leg) {

@@ -10,12 +10,12 @@ use std::process::Abort;
 use std::sync::Wait;
 use std::thread::Threads;
 
-/// The text that N and P send.
+/// The text of feed A: an offer of 300 by N and one of 500 by P, both at 10.00.
 pub(crate) fn feed_a() -> &'static [u8] {
     b"Q,N,ABC,A,,,10.00,300\nQ,P,ABC,A,,,10.00,500\n"
 }
 
-/// The text that Y and Z send.
+/// The text of feed B: an offer of 200 by Y at 10.01 and one of 100 by Z at 10.02.
 pub(crate) fn feed_b() -> &'static [u8] {
     b"Q,Y,ABC,A,,,10.01,200\nQ,Z,ABC,A,,,10.02,100\n"
 }
@@ -38,7 +38,7 @@ pub(crate) fn told(answer: &Answer) -> (u8, usize, u64, u32) {
     (answer.desk, answer.number, plan.version, plan.filled)
 }
 
-/// The facts of the first answer.
+/// The desk, the number, the version and the filled shares of the first answer. `None` if there is no answer.
 pub(crate) fn first_told(answers: &[Answer]) -> Option<(u8, usize, u64, u32)> {
     match answers.first() {
         Some(answer) => Some(told(answer)),
@@ -64,7 +64,8 @@ pub(crate) fn never_falls(numbers: &[u64]) -> bool {
     true
 }
 
-/// Whether the tape has the four changes, those of a feed in its order, and all of it was published at last.
+/// Whether the tape has the four changes of feeds A and B, and was published completely. The changes of each feed have to be in
+/// its order.
 pub(crate) fn has_four(tape: &[Change], published: &[u64]) -> bool {
     tape.len() == 4
         && place_of(tape, 0) < place_of(tape, 1)
@@ -79,7 +80,7 @@ pub(crate) fn has_four(tape: &[Change], published: &[u64]) -> bool {
 const CLOSING: &[u8] =
     b"PLAN,4,B,ABC,600,10.0100,,600,6001.700000000\nLEG,N,10.0000,100\nLEG,P,10.0000,500\nCUT,10.0000,MARGINAL,10.003000000\nCUT,10.0100,TOOMUCH,\nEND\n";
 
-/// Whether an answer is that plan with that certificate.
+/// Whether an answer is the closing plan with its certificate, both worked out by hand. `None` if the expected text is not read.
 pub(crate) fn says_closing(alloc: Global, answer: &Answer) -> Option<bool> {
     match read_setup(alloc, SETUP_K) {
         Ok(setup) => says_under(alloc, setup.roster(), answer),
@@ -87,7 +88,7 @@ pub(crate) fn says_closing(alloc: Global, answer: &Answer) -> Option<bool> {
     }
 }
 
-/// As `says_closing`, by the names of a roster.
+/// Whether an answer is the closing plan that was worked out by hand. A given roster has the names in its text.
 fn says_under(alloc: Global, roster: &Roster, answer: &Answer) -> Option<bool> {
     match read_plan(alloc, CLOSING, roster) {
         Ok((plan, certificate)) => Some(is_answered(answer, &plan, &certificate)),
@@ -95,7 +96,7 @@ fn says_under(alloc: Global, roster: &Roster, answer: &Answer) -> Option<bool> {
     }
 }
 
-/// Whether an answer is this plan with this certificate.
+/// Whether an answer has a given plan and a given certificate.
 fn is_answered(answer: &Answer, plan: &Plan, certificate: &Certificate) -> bool {
     is_plan(&answer.plan, plan) && answer.certificate.as_slice() == certificate.as_slice()
 }
@@ -114,14 +115,14 @@ fn is_plan(one: &Plan, other: &Plan) -> bool {
         && one.cost == other.cost
 }
 
-/// Compares answers with that plan and that certificate, each.
+/// Compares each closing answer with the plan and the certificate that were worked out by hand.
 pub(crate) fn compare_closing<R: Abort>(rt: &R, alloc: Global, closing: &[Answer]) {
     for answer in closing {
         same(rt, says_closing(alloc, answer), Some(true));
     }
 }
 
-/// Compares the result of the worked run.
+/// Compares the tape and the answers of the run of two feeds with the values worked out by hand.
 fn compare_worked<R: Abort>(rt: &R, alloc: Global, live: &Live) {
     same(rt, has_four(&live.tape, &live.published), true);
     same(rt, (live.answers.len(), live.closing.len()), (1, 1));
@@ -148,7 +149,8 @@ fn an_order_for_a_symbol_off_the_roster_is_answered_with_no_leg(rt: HostRuntime)
     same(&rt, live.closing.last().map(told), Some((0, 1, 4, 600)));
 }
 
-/// The fault that ends a run over a setup of these limits, with the worked order.
+/// The fault that ends a run with an order to buy 600 ABC. The setup has a given limit of the tape, and room for two changes in
+/// the queue.
 fn fault<R: Threads + Wait + Abort + Sync, G: Gate>(
     rt: &R,
     alloc: Global,
@@ -185,11 +187,11 @@ fn the_first_refused_record_is_named_and_feed_a_goes_first(rt: HostRuntime) {
     }
 }
 
-/// Five changes of one participant.
+/// The text of a feed with five quotations of one participant.
 pub(crate) const FIVE: &[u8] =
     b"Q,N,ABC,A,,,10.00,100\nQ,N,ABC,A,,,10.00,100\nQ,N,ABC,A,,,10.00,100\nQ,N,ABC,A,,,10.00,100\nQ,N,ABC,A,,,10.00,100\n";
 
-/// The lengths of the tape and of the answers, and the last publishing.
+/// How many changes the tape of a run has, how many answers and closing answers there are, and the last published version.
 fn lengths_of(live: &Live) -> (usize, usize, usize, Option<u64>) {
     (
         live.tape.len(),
@@ -199,7 +201,7 @@ fn lengths_of(live: &Live) -> (usize, usize, usize, Option<u64>) {
     )
 }
 
-/// The lengths of the tape and of the answers of a run through a lane of 2, with no order.
+/// How many changes and answers a run without orders has, through a lane of two places, and the last published version.
 fn lengths<R: Threads + Wait + Abort + Sync>(
     rt: &R,
     alloc: Global,

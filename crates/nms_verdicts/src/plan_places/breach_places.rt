@@ -17,20 +17,20 @@ use nms_units::{Money, Price};
 /// The place of a breach in a plan, what was found there, and what was expected.
 #[derive(Drop)]
 pub(crate) enum BreachPlace {
-    /// P1: the plan's version, and the view's.
+    /// P1: the plan is of another version than the one on which it is judged.
     OtherVersion {
         /// The version that the plan names.
         found: u64,
-        /// The version of the view.
+        /// The version on which the plan is judged.
         expected: u64,
     },
-    /// P2: the plan's order, and the order given, or the view's symbol.
+    /// P2: the plan is for another order than the given one, or for another symbol than the one judged.
     OtherOrder {
         /// The order that the plan names.
         found: Order,
         /// The order that was given.
         expected: Order,
-        /// The symbol of the view.
+        /// The symbol whose quotations are judged.
         seen: Sym,
     },
     /// P3: the first leg whose participant has no quotation there, is named by the order, or has a manual one that the order
@@ -53,14 +53,14 @@ pub(crate) enum BreachPlace {
     Repeated {
         /// The first leg with a later one to the same participant.
         first: LegPlace,
-        /// The first such later leg.
+        /// The first later leg to that participant.
         again: LegPlace,
     },
-    /// P9: the shares of all legs, and those asked for.
+    /// P9: the legs have more shares than the order asks for.
     OverAsked {
         /// The shares of all legs.
         found: u64,
-        /// The shares that were asked for, which they exceed.
+        /// The number of shares that the order asks for, which is less.
         expected: u32,
     },
     /// P10: the quotations that the plan's worst price trades through.
@@ -70,24 +70,24 @@ pub(crate) enum BreachPlace {
         /// The protected quotations at better prices that get less than they display, by participant place.
         passed: ArrayVec<PassedOver, MOST_ROWS>,
     },
-    /// P11: the shares that the plan says are filled, and those of its legs.
+    /// P11: the number of filled shares in the plan differs from the shares of its legs.
     FilledWrong {
-        /// The number in the plan.
+        /// The number of filled shares that the plan names.
         found: u32,
         /// The shares of all legs.
         expected: u64,
     },
-    /// P12: the cost in the plan, and the cost of its legs with fees, in nanodollars.
+    /// P12: the cost in the plan differs from the cost of its legs with fees. Both are in nanodollars.
     CostWrong {
-        /// The cost in the plan.
+        /// The cost that the plan names, in nanodollars.
         found: Money,
-        /// The cost of the legs, with the fees of the book.
+        /// The cost of the legs with their fees, in nanodollars.
         expected: Money,
     },
 }
 
-/// The place of the breach that `breach` of `nms_rules` reports for a plan. It is the first leg that has the breach, with what
-/// was found and what was expected. Takes no memory. This product's own rule.
+/// Finds the place of the breach that the rule checker reports for a plan: the first leg that has the breach. It comes with the
+/// found and the expected value. This takes no memory, and is this product's own rule.
 pub(crate) fn breach_place(
     view: &View,
     order: &Order,

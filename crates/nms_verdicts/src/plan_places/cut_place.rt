@@ -23,11 +23,11 @@ pub(crate) struct CutSums {
     pub(crate) most: u64,
     /// The displayed sizes of the protected quotations at better prices, which must be swept first.
     pub(crate) swept: u64,
-    /// The displayed sizes of the other usable quotations at that price or better.
+    /// The displayed sizes of the other usable quotations at the cut's price or better.
     pub(crate) pool: u64,
 }
 
-/// The cut with that number.
+/// The cut with the given number in a certificate, counted from 0.
 pub(crate) fn cut_place(cuts: &[Cut], number: usize) -> CutPlace
     requires within { number < length cuts.now }
     requires few { length cuts.now ≤ MOST_ROWS }
@@ -41,7 +41,7 @@ pub(crate) fn cut_place(cuts: &[Cut], number: usize) -> CutPlace
     }
 }
 
-/// The sums at the price of a cut.
+/// The shares that must be swept and may be taken at the price of a cut, next to the number that can be filled.
 pub(crate) fn sums_at(rows: &[UsableRow], most: u64, cutoff: Rank) -> CutSums
     requires { length rows.now ≤ MOST_ROWS }
     ensures { AreSums rows.now most cutoff result }

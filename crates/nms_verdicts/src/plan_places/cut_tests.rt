@@ -11,14 +11,14 @@ use nms_quote::{Cut, CutKind, OrderSide};
 use nms_rules::{Rank, UsableRow, is_better};
 use nms_units::{Money, Price};
 
-/// The first row whose price has no cut.
+/// The first usable quotation whose price has no cut.
 pub(crate) fn row_without_cut(rows: &[UsableRow], cuts: &[Cut]) -> Option<UsableRow>
     ensures { result ≡ find (λ row. not (has_cut cuts.now row.price)) rows.now }
 {
     rows.iter().find(|row| !has_cut(cuts, row.price)).copied()
 }
 
-/// The number of the first cut at no row's price.
+/// The number of the first cut at a price of no usable quotation, counted from 0.
 pub(crate) fn cut_without_row(rows: &[UsableRow], cuts: &[Cut]) -> Option<usize>
     ensures { result ≡ position (λ cut. not (has_row rows.now cut.price)) cuts.now }
 {
@@ -44,7 +44,7 @@ pub(crate) fn out_of_order_in(side: OrderSide, cuts: &[Cut]) -> (usize, usize)
     unreachable!()
 }
 
-/// The number of the first cut whose price this cut's price does not beat.
+/// The number of the first cut, counted from 0, whose price the given price does not beat.
 fn first_not_after(side: OrderSide, price: Price, cuts: &[Cut]) -> Option<usize>
     ensures { result ≡ position (λ cut. not (is_better side price cut.price)) cuts.now }
 {
@@ -52,7 +52,7 @@ fn first_not_after(side: OrderSide, price: Price, cuts: &[Cut]) -> Option<usize>
         .position(|cut| !is_better(side, price, cut.price))
 }
 
-/// The number of the first cut that contradicts the sums at its price.
+/// The number of the first cut, counted from 0, whose claim contradicts the shares to be swept or taken at its price.
 pub(crate) fn wrong_kind_in(
     side: OrderSide,
     rows: &[UsableRow],

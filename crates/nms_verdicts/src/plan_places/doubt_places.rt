@@ -47,7 +47,7 @@ pub(crate) enum DoubtPlace {
     WrongKind {
         /// The cut.
         cut: CutPlace,
-        /// The sums at its price.
+        /// The shares that must be swept and may be taken at the cut's price.
         sums: CutSums,
     },
     /// K6: the first cut whose marginal is out of its range, which is -10^18 to 10^18 nanodollars.
@@ -56,15 +56,15 @@ pub(crate) enum DoubtPlace {
     BoundFails {
         /// The cut.
         cut: CutPlace,
-        /// The least cost of a plan by that marginal, in nanodollars.
+        /// The least cost of a plan that the cut's marginal implies, in nanodollars.
         bound: Money,
-        /// The cost of the plan, in nanodollars, which is more.
+        /// The cost of the judged plan, in nanodollars. It exceeds the least cost.
         cost: Money,
     },
 }
 
-/// The place of the doubt that `confirm` of `nms_cert` reports for a plan. It is in the plan or in its certificate, with what
-/// was found and what was expected. Takes no memory. This product's own rule.
+/// Finds the place of the doubt that the certificate checker reports for a plan. The place is in the plan or its certificate,
+/// with the found and the expected value. This takes no memory, and is this product's own rule.
 pub(crate) fn doubt_place(
     view: &View,
     order: &Order,
@@ -89,7 +89,7 @@ pub(crate) fn doubt_place(
     }
 }
 
-/// The place of a doubt about the cuts of a plan.
+/// Finds the place of a doubt about a certificate's cuts, from the quotations that the order may trade with.
 fn on_cuts(
     view: &View,
     order: &Order,
@@ -119,7 +119,7 @@ fn short_place(view: &View, order: &Order, plan: &Plan, fees: &FeeBook) -> Doubt
     }
 }
 
-/// The place of a doubt about the cuts.
+/// Finds the place of a doubt about a certificate's cuts, among the given usable quotations.
 fn cuts_place(
     side: OrderSide,
     rows: &[UsableRow],
@@ -144,7 +144,7 @@ fn cuts_place(
     }
 }
 
-/// The first cut at no usable price, or else a cut out of order.
+/// Finds the first cut at a price of no usable quotation. If there is none, finds two cuts that are out of order.
 fn extra_place(side: OrderSide, rows: &[UsableRow], cuts: &[Cut]) -> DoubtPlace
     requires extra { (some_is_extra rows.now cuts.now || is_out_of_order side cuts.now) ≡ true }
     requires few { length cuts.now ≤ MOST_ROWS }
@@ -181,7 +181,7 @@ fn missing_row(rows: &[UsableRow], cuts: &[Cut]) -> UsableRow
     }
 }
 
-/// The first cut that contradicts the sums at its price.
+/// The first cut whose claim contradicts the shares to be swept or taken at its price.
 fn wrong_cut(side: OrderSide, rows: &[UsableRow], most: u64, cuts: &[Cut]) -> CutPlace
     requires wrong { some_is_wrong_kind side rows.now most cuts.now ≡ true }
     requires rows { length rows.now ≤ MOST_ROWS }
@@ -210,7 +210,7 @@ fn ranging_cut(cuts: &[Cut]) -> CutPlace
     }
 }
 
-/// The first cut that contradicts the sums at its price, and these sums.
+/// The first cut whose claim contradicts the shares to be swept or taken at its price, with these numbers of shares.
 fn kind_place(side: OrderSide, rows: &[UsableRow], most: u64, cuts: &[Cut]) -> DoubtPlace
     requires wrong { some_is_wrong_kind side rows.now most cuts.now ≡ true }
     requires rows { length rows.now ≤ MOST_ROWS }
@@ -222,7 +222,7 @@ fn kind_place(side: OrderSide, rows: &[UsableRow], most: u64, cuts: &[Cut]) -> D
     DoubtPlace::WrongKind { cut, sums }
 }
 
-/// The sums at a cut's price.
+/// The numbers of shares that must be swept and may be taken at a cut's price.
 fn sums_of(side: OrderSide, rows: &[UsableRow], most: u64, at: &CutPlace) -> CutSums
     requires { length rows.now ≤ MOST_ROWS }
     ensures { AreSums rows.now most (rank_of side at.now.cut.price) result }
@@ -230,7 +230,7 @@ fn sums_of(side: OrderSide, rows: &[UsableRow], most: u64, at: &CutPlace) -> Cut
     sums_at(rows, most, Rank::of(side, at.cut.price))
 }
 
-/// A cut with its bound, which the plan's cost exceeds.
+/// Describes a cut by whose marginal a plan might cost less than the judged plan.
 fn bound_place(
     side: OrderSide,
     rows: &[UsableRow],
@@ -251,7 +251,7 @@ fn bound_place(
     DoubtPlace::BoundFails { cut, bound, cost }
 }
 
-/// The least cost of a plan by a cut's marginal.
+/// The least cost that a cut's marginal implies for a plan with the cut's price as its worst price.
 fn bound_at(side: OrderSide, rows: &[UsableRow], most: u64, at: &CutPlace) -> Money
     requires marginal { IsMarginal at.now.cut.kind }
     requires range { is_out_of_range at.now.cut.kind ≡ false }
@@ -262,7 +262,7 @@ fn bound_at(side: OrderSide, rows: &[UsableRow], most: u64, at: &CutPlace) -> Mo
     bound_of(rows, most, Rank::of(side, at.cut.price), at.cut.kind)
 }
 
-/// The least cost of a plan by a marginal.
+/// The least cost that a marginal implies for a plan with the given worst price.
 fn bound_of(rows: &[UsableRow], most: u64, cutoff: Rank, kind: CutKind) -> Money
     requires marginal { IsMarginal kind }
     requires range { is_out_of_range kind ≡ false }

@@ -19,7 +19,7 @@ pub(crate) struct LegPlace {
     pub(crate) quotation: Option<Row>,
 }
 
-/// The leg with that number, with the quotation to which it goes.
+/// The leg with the given number in a plan, counted from 0, and the quotation to which it goes.
 pub(crate) fn leg_place(view: &View, side: OrderSide, legs: &[Leg], number: usize) -> LegPlace
     requires within { number < length legs.now }
     requires few { length legs.now ≤ MOST_ROWS }

@@ -10,7 +10,7 @@ use nms_board::{MOST_ROWS, View};
 use nms_quote::{Leg, Order, Part};
 use nms_rules::{Breach, has_other_price, is_better, is_over_size, lacks_quotation};
 
-/// The first leg that has a breach by itself.
+/// The first leg that has the given breach, without regard to other legs.
 pub(crate) fn first_broken(view: &View, order: &Order, legs: &[Leg], breach: Breach) -> LegPlace
     requires some { list_any (breaks view.now order.now breach) legs.now ≡ true }
     requires few { length legs.now ≤ MOST_ROWS }
@@ -22,14 +22,14 @@ pub(crate) fn first_broken(view: &View, order: &Order, legs: &[Leg], breach: Bre
     }
 }
 
-/// The number of the first leg that has a breach by itself.
+/// The number of the first leg, counted from 0, that has the given breach without regard to other legs.
 fn broken_in(view: &View, order: &Order, legs: &[Leg], breach: Breach) -> Option<usize>
     ensures { result ≡ position (breaks view.now order.now breach) legs.now }
 {
     legs.iter().position(|leg| breaks(view, order, breach, leg))
 }
 
-/// Whether a leg by itself has a breach.
+/// Whether a leg has the given breach, without regard to other legs.
 fn breaks(view: &View, order: &Order, breach: Breach, leg: &Leg) -> bool
     ensures { result ≡ breaks view.now order.now breach leg.now }
 {

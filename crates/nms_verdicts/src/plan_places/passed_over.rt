@@ -16,7 +16,7 @@ use nms_units::Price;
 pub(crate) struct PassedOver {
     /// The quotation: its participant, its price in 1/10,000 dollar, its displayed size in shares.
     pub(crate) row: Row,
-    /// The shares that the plan sends there, fewer than are displayed.
+    /// The number of shares that the plan sends to the quotation, fewer than its displayed size.
     pub(crate) given: u64,
 }
 
@@ -30,7 +30,7 @@ impl Default for PassedOver {
     }
 }
 
-/// The quotations that the legs trade through, by participant place.
+/// The protected quotations that a plan's legs trade through, sorted by participant.
 pub(crate) fn passed_over(
     view: &View,
     order: &Order,
