@@ -245,7 +245,7 @@ def time_of(layout, text):
 
 
 def day_of(layout, text):
-    """The date of a time that is read, by the clock of the layout's zone; None if it has none of the years 2007 to 2099."""
+    """The date of a time that is read, in the layout's zone; None if it has none of the years 2007 to 2099."""
     if layout.form in SINCE_1970:
         second = int(text) * SINCE_1970[layout.form][1] // 10 ** 9
     else:
