@@ -240,7 +240,7 @@ def time_of(layout, text):
         if int(found[6]) > 23 or int(found[7]) > 59:
             return None
         second -= int(found[5] + "1") * (int(found[6]) * 3600 + int(found[7]) * 60)
-    midnight = midnight_of(text[:10]) if day and layout.zone is None else 0
+    midnight = midnight_of(text[:10]) if day else 0
     return None if midnight is None else zoned(layout, midnight + second * 10 ** 9 + int((found[4] or "").ljust(9, "0")))
 
 
@@ -383,16 +383,16 @@ def random_time(layout, dice):
          day + "12:00:00.+00:00", day + "12:00:00.5-00:00Z", day + "12:00:00 -05:00", day + "12-00:00",
          day + "12:00-00", "2024-01-02_12:00:00", day + "23:59:59.999999999Z",
          *(it + " 12:00:00.5-05:00" for it in ("2024-13-01", "2024-00-10", "2024-02-31", "2024-04-31", "2024-05-00", "2024-05-32", "2006-12-31", "2100-01-01",
-                                               "2024/05/01", "2024-05/01", "20240-1-01", "2024-1-011", "+024-01-01", "          ")),
+                                               "2024/05/01", "05/01/2024", "2024-05/01", "20240-1-01", "2024-1-011", "+024-01-01", "          ")),
          "2007-01-01 00:00:00+00:01", "2007-01-01 00:00:00Z", "2099-12-31 23:59:59.9-00:01", "2099-12-31 23:59:59.9-00:00"]
 
 
 def random_day(layout, dice):
-    """A day since 1970: mostly that of the layout, if it has one, or the next. For New York mostly one of those that are read, and
-    often one near a change of the clock."""
+    """A day since 1970: mostly that of the layout, if it has one, or the next. Of dates, and for New York, mostly one of those that are
+    read, and often one near a change of the clock."""
     if layout.day is not None and dice.randrange(50):
         return layout.day + dice.randrange(2)
-    if layout.zone is not None or dice.randrange(20) == 0:
+    if (layout.form != "iso" and layout.zone is not None) or dice.randrange(20) == 0:
         return dice.randrange(20000)
     if dice.randrange(2):
         return COVERED[0] // 86400 + dice.randrange((COVERED[1] - COVERED[0]) // 86400)

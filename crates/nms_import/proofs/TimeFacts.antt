@@ -3,7 +3,7 @@ use Rattle.std.proofs.Common.{ℕ, ◌≡◌, ◌≤◌, ◌+◌, ◌-◌, true,
 use Rattle.std.proofs.lemmas.List.{length-drop, take_all}
 use Rattle.std.proofs.lemmas.Bool.Decides.{nat_tests}
 use Rattle.nms_units.specs.Price.{both}
-use Rattle.nms_import.specs.Times.{clock_number, colons_number, has_date, instant_from, instant_number, iso_number}
+use Rattle.nms_import.specs.Times.{clock_number, colons_number, has_date, instant_from, instant_number}
 use Rattle.nms_import.specs.Times.{midnight_number, nanoseconds, seconds, to_utc, utc_number, zone_length}
 
 -- as many bytes as are left are all that are left
@@ -17,11 +17,7 @@ clock_of text second after long first rest =
     let is_long : nat_lt (length text) 6 ≡ false = grind (arith, nat_tests) in
     rw (is_long, sym first, sym rest) refl
 
--- a time and its zone follow a date
-pub iso_of : (text : List ℕ) → true ≡ has_date text → utc_number (take (length text - 11) (drop 11 text)) ≡ iso_number text
-iso_of text dated = rw (rest_of text 11, sym dated) refl
-
--- the same from a date's midnight
+-- a time and its zone follow a date, from whose midnight they count
 pub instant_of : (text : List ℕ) (midnight : Option ℕ) → true ≡ has_date text → midnight ≡ midnight_number text
     → instant_from midnight (take (length text - 11) (drop 11 text)) ≡ instant_number text
 instant_of text midnight dated is = rw (rest_of text 11, sym dated, is) refl

@@ -61,6 +61,14 @@ round_size = 51 ∷ 48 ∷ 48 ∷ 46 ∷ 48 ∷ []
 abbrev pub local_iso : List ℕ
 local_iso = 50 ∷ 48 ∷ 50 ∷ 52 ∷ 45 ∷ 48 ∷ 49 ∷ 45 ∷ 48 ∷ 50 ∷ 32 ∷ 48 ∷ 57 ∷ 58 ∷ 51 ∷ 48 ∷ 58 ∷ 48 ∷ 48 ∷ []
 
+-- 01/02/2024 09:30:00
+abbrev pub month_first : List ℕ
+month_first = 48 ∷ 49 ∷ 47 ∷ 48 ∷ 50 ∷ 47 ∷ 50 ∷ 48 ∷ 50 ∷ 52 ∷ 32 ∷ 48 ∷ 57 ∷ 58 ∷ 51 ∷ 48 ∷ 58 ∷ 48 ∷ 48 ∷ []
+
+-- 2006-12-29 09:30:00
+abbrev pub before_the_rule : List ℕ
+before_the_rule = 50 ∷ 48 ∷ 48 ∷ 54 ∷ 45 ∷ 49 ∷ 50 ∷ 45 ∷ 50 ∷ 57 ∷ 32 ∷ 48 ∷ 57 ∷ 58 ∷ 51 ∷ 48 ∷ 58 ∷ 48 ∷ 48 ∷ []
+
 -- 2024-03-10 01:59:59-05:00
 abbrev pub last_of_winter : List ℕ
 last_of_winter =
@@ -99,6 +107,9 @@ pub record ExamplesHold : Type 0 where
   pub after_the_change : clock_of form.Iso zone.NewYork first_of_summer ≡ Some 30000000000000
   pub a_local_time : clock_of form.Iso zone.Unsaid local_iso ≡ Some 93000000000000
   pub not_if_it_says_an_offset : clock_of form.Iso zone.Unsaid with_offset ≡ None
+  pub not_in_another_form_of_a_date : clock_of form.Iso zone.Unsaid month_first ≡ None
+  pub nor_with_an_offset : clock_of form.Iso (zone.Moved 68400) month_first ≡ None
+  pub nor_before_2007 : clock_of form.Iso zone.Unsaid before_the_rule ≡ None
   pub not_if_it_counts_from_1970 : clock_of form.UnixNanoseconds zone.Unsaid unix ≡ None
   pub colons_without_a_zone : clock_of form.Colons zone.Unsaid with_colons ≡ Some 93000500000000
   pub no_date_no_zone : clock_of form.Colons zone.NewYork with_colons ≡ None

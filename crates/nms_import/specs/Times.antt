@@ -88,8 +88,7 @@ second_at text = both (both (hours_at text) (minutes_at text)) (seconds_at text)
 abbrev pub colons_number : List ℕ → Option ℕ
 colons_number text = if has_colons text then both (second_at text) (point_and_fraction (drop 8 text)) else None
 
--- "iso": ten bytes of a date, which is not read; T or a blank; a time with colons; at most a Z, or an offset from UTC as +HH:MM or
--- +HHMM
+-- "iso": ten bytes of a date; T or a blank; a time with colons; at most a Z, or an offset from UTC as +HH:MM or +HHMM
 abbrev pub has_date : List ℕ → Bool
 has_date text = nat_le 11 (length text) && (get_or text 10 0 == 84 || get_or text 10 0 == 32)
 
@@ -120,9 +119,6 @@ to_utc zone =
 abbrev pub utc_number : List ℕ → Option ℕ
 utc_number text =
     both (colons_number (take (length text - zone_length text) text)) (to_utc (drop (length text - zone_length text) text))
-
-abbrev pub iso_number : List ℕ → Option ℕ
-iso_number text = if has_date text then utc_number (drop 11 text) else None
 
 -- ---- New York: summer time is from 2:00 of the second Sunday in March to 2:00 of the first in November (15 U.S.C. 260a), since 2007
 
@@ -168,7 +164,7 @@ local zone.Unsaid nanos = Some (clock_at 0 nanos)
 local (zone.Moved seconds) nanos = zoned (zone.Moved seconds) nanos
 local zone.NewYork nanos = zoned zone.NewYork nanos
 
--- ---- "iso" in such a zone: its date is read, as YYYY-MM-DD
+-- ---- the date of "iso", as YYYY-MM-DD of the years 2007 to 2099
 
 -- the days from 1 March 1968 to a date
 abbrev pub days_of : (year month day : ℕ) → ℕ
@@ -217,8 +213,8 @@ says_zone text = nat_lt 11 (length text) && not (nat_eq (zone_length (drop 11 te
 
 -- a date and a time in a zone; if the mapping says none, the time has to be one of the clock of the market
 abbrev pub iso_zoned : Zone → List ℕ → Option ℕ
-iso_zoned zone.Unsaid text = if says_zone text then None else option_map (clock_at 0) (iso_number text)
-iso_zoned (zone.Moved seconds) text = option_map (clock_at seconds) (iso_number text)
+iso_zoned zone.Unsaid text = if says_zone text then None else option_map (clock_at 0) (instant_number text)
+iso_zoned (zone.Moved seconds) text = option_map (clock_at seconds) (instant_number text)
 iso_zoned zone.NewYork text = option_and_then in_new_york (instant_number text)
 
 -- ---- all forms
@@ -241,8 +237,7 @@ clock_of form.UnixMilliseconds zone text = option_and_then (zoned zone) (millise
 clock_of form.Colons zone text = option_and_then (local zone) (colons_number text)
 clock_of form.Iso zone text = iso_zoned zone text
 
--- ---- the day that a text says, by the clock of its zone: the days that end at a midnight there, counted from one that depends on
--- the zone only
+-- ---- the day that a text says, in its zone: the days that end at a midnight there, counted from one that depends on the zone only
 
 abbrev pub day_at : (zone nanos : ℕ) → ℕ
 day_at zone nanos = (nanos / 1000000000 + zone) / 86400

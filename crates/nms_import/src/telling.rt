@@ -365,7 +365,7 @@ fn no_local_time(form: TimeForm) -> &'static str
         TimeForm::UnixNanoseconds | TimeForm::UnixMicroseconds | TimeForm::UnixMilliseconds =>
             "a time since 1970, which needs a zone in the mapping: zone = \"America/New_York\", or zone_offset",
         TimeForm::Iso =>
-            "no date and time as 2024-01-02T09:30:00; with an offset it needs a zone in the mapping: zone = \"America/New_York\", or zone_offset",
+            "no date and time as 2024-01-02T09:30:00 of a year from 2007 to 2099; with an offset it needs a zone in the mapping: zone = \"America/New_York\", or zone_offset",
     }
 }
 
@@ -380,7 +380,7 @@ fn no_time_of(form: TimeForm) -> &'static str
         TimeForm::UnixNanoseconds => "no nanoseconds since 1970",
         TimeForm::UnixMicroseconds => "no microseconds since 1970",
         TimeForm::UnixMilliseconds => "no milliseconds since 1970",
-        TimeForm::Iso => "no date and time as 2024-01-02T09:30:00",
+        TimeForm::Iso => "no date and time as 2024-01-02T09:30:00 of a year from 2007 to 2099",
     }
 }
 
@@ -391,10 +391,10 @@ fn no_dated_time(form: TimeForm) -> &'static str
 {
     match form {
         TimeForm::Clock | TimeForm::Colons | TimeForm::Seconds => "no date",
+        TimeForm::Iso => no_time_of(form),
         TimeForm::UnixNanoseconds => "no nanoseconds since 1970 of a year from 2007 to 2099",
         TimeForm::UnixMicroseconds => "no microseconds since 1970 of a year from 2007 to 2099",
         TimeForm::UnixMilliseconds => "no milliseconds since 1970 of a year from 2007 to 2099",
-        TimeForm::Iso => "no date and time as 2024-01-02T09:30:00 of a year from 2007 to 2099",
     }
 }
 

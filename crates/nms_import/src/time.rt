@@ -4,7 +4,7 @@ ghost use Rattle.nms_units.specs.Digits.{by_point, point_in};
 ghost use Rattle.nms_units.specs.Price.{both};
 ghost use Rattle.nms_import.specs.Forms.{zone_in};
 ghost use Rattle.nms_import.specs.Mapping.{time_of};
-ghost use Rattle.nms_import.specs.Times.{clock_at, clock_digits, clock_number, clock_of, colons_number, day_at, day_in, day_of, days_of, fraction, has_colons, has_date, has_sign, hours_at, in_new_york, instant_from, instant_number, is_behind, is_clock, is_from_end, is_between, is_part_of_day, is_past, is_summer, iso_number, iso_zoned, local, midnight_number, number_within, over_midnight, since_march, zoned, microseconds, milliseconds, minutes_at, nanoseconds, new_york_zone, only_if, point_and_fraction, says_zone, seconds, second_at, seconds_and_fraction, seconds_at, seconds_number, to_utc, two_at, utc_number, whole_seconds, without_colon, zone_length};
+ghost use Rattle.nms_import.specs.Times.{clock_at, clock_digits, clock_number, clock_of, colons_number, day_at, day_in, day_of, days_of, fraction, has_colons, has_date, has_sign, hours_at, in_new_york, instant_from, instant_number, is_behind, is_clock, is_from_end, is_between, is_part_of_day, is_past, is_summer, iso_zoned, local, midnight_number, number_within, over_midnight, since_march, zoned, microseconds, milliseconds, minutes_at, nanoseconds, new_york_zone, only_if, point_and_fraction, says_zone, seconds, second_at, seconds_and_fraction, seconds_at, seconds_number, to_utc, two_at, utc_number, whole_seconds, without_colon, zone_length};
 ghost use Rattle.nms_import.specs.Imported.{fifteen_digits, line_of, numbered_line, time_line};
 
 use crate::cause::Cause;
@@ -64,8 +64,7 @@ fn zoned(zone: Zone, nanos: u64) -> Option<u64>
     }
 }
 
-/// The time of day of a date and a time, moved by a zone. The date is read only if the zone has a summer time. Without a zone the
-/// time may not say how far it is from UTC.
+/// The time of day of a date and a time, moved by a zone. Without a zone the time may not say how far it is from UTC.
 fn iso_zoned(zone: Zone, text: &[u8]) -> Option<u64>
     ensures { result ≡ iso_zoned zone text.now }
 {
@@ -74,10 +73,10 @@ fn iso_zoned(zone: Zone, text: &[u8]) -> Option<u64>
             if says_zone(text) {
                 None
             } else {
-                Some(clock_at(0, iso_in(text)?))
+                Some(clock_at(0, instant_in(text)?))
             }
         }
-        Zone::Moved(seconds) => Some(clock_at(seconds, iso_in(text)?)),
+        Zone::Moved(seconds) => Some(clock_at(seconds, instant_in(text)?)),
         Zone::NewYork => in_new_york(instant_in(text)?),
     }
 }
@@ -111,8 +110,9 @@ fn new_york_zone(second: u64) -> Option<u32>
     }
 }
 
-/// The day on which a text of the given form is, by the clock of a zone. Days are counted from one that depends on the zone only,
-/// so that those of one file can be compared. A form without a date says none, and neither does a date before 2007 or after 2099.
+/// The day that a text of the given form says, in a zone. Days are counted from one that depends on the zone only, so that those
+/// of one file can be compared. A form without a date says none, and in New York a time since 1970 says none before 2007 or after
+/// 2099.
 pub fn day_of(form: TimeForm, zone: Zone, text: &[u8]) -> Option<u64>
     ensures { result ≡ day_of form zone text.now }
 {
@@ -125,7 +125,7 @@ pub fn day_of(form: TimeForm, zone: Zone, text: &[u8]) -> Option<u64>
     }
 }
 
-/// The day of an instant in nanoseconds since 1970, by the clock of a zone.
+/// The day of an instant in nanoseconds since 1970, in a zone.
 fn day_in(zone: Zone, nanos: u64) -> Option<u64>
     ensures { result ≡ day_in zone nanos }
 {
@@ -182,7 +182,7 @@ fn since_march(day: u64) -> u64
     day - (4 * day + 3) / 1461 * 1461 / 4
 }
 
-/// A date and a time of day, as nanoseconds since 1970.
+/// A date of the years 2007 to 2099 and a time of day, as nanoseconds since 1970.
 fn instant_in(text: &[u8]) -> Option<u64>
     ensures { result ≡ instant_number text.now }
 {
@@ -413,16 +413,6 @@ fn whole_seconds(text: &[u8]) -> Option<u64>
 {
     let number = parse_digits(text, 5)?;
     Some(number * 1_000_000_000)
-}
-
-/// A date and a time of day, as nanoseconds after the date's midnight.
-fn iso_in(text: &[u8]) -> Option<u64>
-    ensures { result ≡ iso_number text.now }
-{
-    if !has_date(text) {
-        return None;
-    }
-    utc_in(&text[11..])
 }
 
 /// A time of day that may have its zone after it, as nanoseconds after a midnight of UTC.
