@@ -70,7 +70,7 @@ int run(const std::string &setup)
 
     for (const char *record : {"Q,N,ABC,A,9.98,400,10.00,300", "Q,P,ABC,A,9.99,200,10.00,500", "Q,Y,ABC,A,9.97,600,10.01,200", "R,ABC,100"}) {
         board.apply(record);
-        // After a text, these two fields are all that a publishing needs.
+        // After a text, these two fields are all that a publishing needs. After an `X` the kind has to be NMS_WITHDRAW.
         nms_change change{};
         change.kind = NMS_QUOTE;
         change.sym = order.sym;
